@@ -1,4 +1,4 @@
--- A number of 32 bits passes through an i64 unchanged. Assumes nothing.
+-- A number of 32 bits passes through an i64 unchanged.
 use mathlib.Core.Path.{_≡_}
 use lib.IntN.{ℤ}
 use mir.Syntax.{w32, w64}

@@ -1,4 +1,4 @@
--- Numbers of 32 bits: what remains of an integer, and how that is read as signed. Assumes nothing.
+-- Numbers of 32 bits: what remains of an integer, and how that is read as signed.
 use Prim.Native.Nat.{ℕ, suc, _-_, _%_, _^_}
 use mathlib.Core.Bool.{cond}
 use lib.Dec.{ltb}

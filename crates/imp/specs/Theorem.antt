@@ -15,4 +15,9 @@ pub mod VimpExpressions
 pub mod Live
 pub mod VimpUnique
 pub mod VimpWorlds
+pub mod VimpActs
+pub mod VimpDerived
+pub mod VimpRules
+pub mod VimpTry
+pub mod VimpWhile
 pub mod VimpStatements

@@ -1,4 +1,4 @@
--- Counting members: the ones of a number are its members, and only 0 has none. Each law is over the width k. Assumes nothing.
+-- Counting members: the ones of a number are its members, and only 0 has none. Each law is over the width k.
 use mathlib.Core.Path.{_≡_}
 use Prim.Native.Nat.{ℕ, zero, suc, _+_, _/_, _^_, _≤_, _<_}
 use native.Mathlib.Omega.{arith}

@@ -1,5 +1,5 @@
 -- Which settings are in a number made by masks and shifts: met, joined, taken away, one setting alone, the first n settings.
--- Each law is over the width, or over every number. Assumes nothing.
+-- Each law is over the width, or over every number.
 use mathlib.Core.Path.{_≡_, refl, ap, _∙_}
 use mathlib.Core.Bool.{false, _&&_, _||_, not}
 use Prim.Native.Nat.{ℕ, zero, suc, min, max, _+_, _-_, _*_, _/_, _%_, _^_, _≤_, _<_}

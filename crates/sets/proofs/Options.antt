@@ -1,5 +1,5 @@
 -- The rule of a table of the single options' sets: one test that antt computes over the whole table, and what follows at each entry.
--- Assumes nothing.
+--
 use mathlib.Core.Path.{_≡_, ap, _∙_}
 use mathlib.Core.Bool.{Bool, true, false, _&&_, and-false}
 use mathlib.Core.List.{List, [], _∷_}

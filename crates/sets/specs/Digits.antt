@@ -1,4 +1,4 @@
--- Laws of binary digits: a digit is 0 or 1, and the digits of n / 2 are those of n, one place down. Assumes nothing.
+-- Laws of binary digits: a digit is 0 or 1, and the digits of n / 2 are those of n, one place down.
 use mathlib.Core.Path.{_≡_}
 use Prim.Native.Nat.{ℕ, zero, suc, _/_, _%_, _^_, _≤_, _<_}
 use native.Mathlib.Omega.{arith}

@@ -1,4 +1,4 @@
--- What a set of settings is: which settings are members, how many, and which sets are full. Assumes nothing.
+-- What a set of settings is: which settings are members, how many, and which sets are full.
 use mathlib.Core.Bool.{Bool, true, false}
 use Prim.Native.Nat.{ℕ, zero, suc, _+_, _-_, _/_, _%_, _^_}
 use lib.Dec.{eqb, ltb}

@@ -1,4 +1,4 @@
--- Theorem: sets with the same members are the same set. So a contract that gives the members leaves one result. Assumes nothing.
+-- Theorem: sets with the same members are the same set. So a contract that gives the members leaves one result.
 use mathlib.Core.Path.{_≡_, refl, sym, ap, _∙_}
 use Prim.Native.Nat.{ℕ, zero, suc, _/_, _^_, _<_}
 use native.Mathlib.Omega.{arith}

@@ -1,4 +1,4 @@
--- `imp::bits` meets its contract: on both ways the number that is cast is `low32 a`. Assumes nothing.
+-- `imp::bits` meets its contract: on both ways the number that is cast is `low32 a`.
 use mathlib.Core.Path.{_≡_, sym, ap}
 use mathlib.Core.Bool.{true, false}
 use Prim.Native.Nat.{ℕ, suc}

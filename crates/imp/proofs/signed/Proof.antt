@@ -1,4 +1,4 @@
--- `imp::signed` meets its contract: bits of the lower half are the number, bits of the upper half are 2 ^ 32 above it. Assumes nothing.
+-- `imp::signed` meets its contract: bits of the lower half are the number, bits of the upper half are 2 ^ 32 above it.
 use mathlib.Core.Path.{_≡_, refl, sym, _∙_}
 use mathlib.Core.Bool.{Bool, true, false, cond}
 use Prim.Native.Nat.{ℕ, suc, _-_, _^_, _≤_, _<_}

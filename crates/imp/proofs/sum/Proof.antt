@@ -1,4 +1,4 @@
--- `imp::sum` meets its contract: the bits of a sum are the sum of the bits, modulo 2 ^ 32. Assumes nothing.
+-- `imp::sum` meets its contract: the bits of a sum are the sum of the bits, modulo 2 ^ 32.
 use mathlib.Core.Path.{ap, _∙_}
 use native.Mathlib.Omega.{arith}
 use borrow.Author.Needs.{needs}

@@ -1,7 +1,7 @@
 -- The helpers of Figures 5.3 to 5.5 and 5.7, over sets of settings: a condition is the set in which it is true, and a variational value is given by
 -- what it configures to in each setting, so that `sel` and the SAT solver are not needed.
 use mathlib.Core.Path.{_≡_}
-use Prim.Native.Nat.{ℕ, zero, suc}
+use Prim.Native.Nat.{ℕ, suc}
 use mathlib.Core.Bool.{Bool, true, false, not, _&&_, _||_, cond}
 use mathlib.Core.List.{List, [], _∷_}
 use lib.Dec.{ltb}

@@ -6,7 +6,7 @@ use mathlib.Core.Bool.{Bool, true, false, not, _&&_, cond, true≢false}
 use Rattle.imp.specs.Condition.{Condition, holds}
 use Rattle.imp.specs.Routine.{Arithmetic, number, variable, sum, pick, choiceᵃ, Boolean, falseᵇ, trueᵇ, notᵇ, andᵇ, less, choiceᵇ, Statement, skip, assign, sequence, if, while, throw, try, choice}
 use Rattle.imp.specs.Configure.{configure, configureᵃ, configureᵇ}
-use Rattle.imp.specs.State.{branch, Numbers, State, in-fault, taken, ready, enter, fresh, untouched}
+use Rattle.imp.specs.State.{branch, Numbers, State, in-fault, taken, ready, enter, untouched}
 use Rattle.imp.specs.Plain as Plain
 use Rattle.imp.specs.Plain.{value, truth, run, plain-run}
 use Rattle.imp.specs.Shared.{valueIn, truthIn, Settings, any, Shared, for, visited, where-true, where-false, begun, turns, shared, start, shared-run}

@@ -1,11 +1,10 @@
 -- Laws of beginning a statement in one setting: live with budget left it begins, live with none it is out, and anything else passes by.
-use mathlib.Core.Path.{_≡_, refl, sym, _∙_}
+use mathlib.Core.Path.{_≡_, refl}
 use Prim.Native.Nat.{ℕ, suc, _≤_, _<_}
 use mathlib.Core.Bool.{Bool, true, false, not, _&&_, cond}
 use lib.Dec.{ltb}
-use lib.IntN.{ℤ}
 use borrow.Author.Tests.{ltb-true, lt-ltb, le-ltb}
-use Rattle.imp.specs.State.{branch, Numbers, Outcome, idle, done, fault, out, State, live, ready, spent, enter}
+use Rattle.imp.specs.State.{Numbers, Outcome, idle, done, fault, out, State, live, ready, spent, enter}
 use Rattle.imp.specs.Plain.{begun}
 use Rattle.imp.specs.Theorem.Sets.{and-true}
 

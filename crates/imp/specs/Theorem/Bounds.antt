@@ -1,6 +1,6 @@
 -- Bounds (condition 3): visits are at least the largest step count and at most their sum; all zero for the empty set.
 -- The idea: over any stretch of a shared run visits rise by at least each setting's steps, and by at most the sum of all settings' steps.
-use mathlib.Core.Path.{_≡_, refl, _∙_}
+use mathlib.Core.Path.{_≡_, refl}
 use Prim.Native.Nat.{ℕ, zero, suc, _+_, _≤_, _<_}
 use mathlib.Core.Bool.{Bool, true, false, _&&_, cond, false≢true}
 use native.Mathlib.Omega.{arith}

@@ -1,7 +1,7 @@
 -- What the rules of Figure 4.3 and of the cut derive is run, by induction on the derivation. The converse is `ImpStatements`.
 use mathlib.Core.Path.{_≡_, refl, sym, _∙_, ap}
-use Prim.Native.Nat.{ℕ, zero, suc, _+_, _≤_, _<_}
-use mathlib.Core.Bool.{Bool, true, false}
+use Prim.Native.Nat.{ℕ, zero, suc, _+_, _≤_}
+use mathlib.Core.Bool.{Bool, false}
 use native.Mathlib.Omega.{arith}
 use lib.ListN.{set}
 use Rattle.imp.specs.Routine.{Boolean, Statement, skip, assign, sequence, if, while, throw, try, choice}

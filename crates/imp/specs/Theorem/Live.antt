@@ -1,14 +1,13 @@
 -- A shared run is a run of the live settings of its set: two sets with the same live settings give the same run, and one with none gives none.
 use mathlib.Core.Path.{_≡_, refl, sym, _∙_, ap, ap₂, fun-ext}
 use Prim.Native.Nat.{ℕ, zero, suc, _<_}
-use mathlib.Core.Bool.{Bool, true, false, not, _&&_, _||_, cond, true≢false}
+use mathlib.Core.Bool.{Bool, true, false, not, _&&_, cond, true≢false}
 use native.Mathlib.Decide.{decLt}
 use lib.Dec.{ltb}
 use Rattle.imp.specs.Condition.{Condition, holds}
 use Rattle.imp.specs.Routine.{Statement, skip, assign, sequence, if, while, throw, try, choice}
 use Rattle.imp.specs.Configure.{configure}
 use Rattle.imp.specs.State.{branch, State, live, ready, enter}
-use Rattle.imp.specs.Plain.{run}
 use Rattle.imp.specs.Shared.{Settings, any, Shared, for, visited, where-true, begun, turns, shared}
 use Rattle.imp.specs.Theorem.Sets.{same-cond}
 use Rattle.imp.specs.Theorem.Begin.{enter-dead}

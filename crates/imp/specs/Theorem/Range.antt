@@ -3,25 +3,23 @@
 use mathlib.Core.Path.{_≡_, refl}
 use Prim.Native.Nat.{ℕ, zero, suc, _≤_, _<_}
 use mathlib.Core.Bool.{Bool, true, false, cond}
-use mathlib.Core.List.{List, [], _∷_}
+use mathlib.Core.List.{[], _∷_}
 use native.Mathlib.Omega.{arith}
 use lib.IntN.{ℤ, pos}
 use lib.ListN.{getD, set, length}
 use mir.Syntax.{w32}
 use mir.Val.{SFits}
-use Rattle.imp.specs.Numbers.{wrap}
 use Rattle.imp.specs.Condition.{Condition, holds}
-use Rattle.imp.specs.Routine.{Arithmetic, number, variable, sum, pick, choiceᵃ, Boolean, falseᵇ, trueᵇ, notᵇ, andᵇ, less, choiceᵇ, Statement, skip, assign, sequence, if, while, throw, try, choice}
+use Rattle.imp.specs.Routine.{Arithmetic, number, variable, sum, pick, choiceᵃ, Statement, skip, assign, sequence, if, while, throw, try, choice}
 use Rattle.imp.specs.Configure.{configure, configureᵃ}
 use Rattle.imp.specs.State as State
-use Rattle.imp.specs.State.{Numbers, Outcome, idle, done, fault, out, State, code, ready, spent, enter, store, fresh, untouched}
+use Rattle.imp.specs.State.{Numbers, Outcome, out, State, code, ready, spent, enter, store, fresh, untouched}
 use Rattle.imp.specs.Plain.{value, truth, run, plain-run}
 use Rattle.imp.specs.Shared.{Settings, shared-run}
 use Rattle.imp.specs.Theorem.Wrap.{wrap-fits}
 use Rattle.imp.specs.Theorem.Begin.{ready-lt}
 use Rattle.imp.specs.Theorem.Agreement.{agreement, outside}
-use Rattle.imp.specs.Theorem.Keep as Keep
-use Rattle.imp.specs.Theorem.Keep.{Every, Kept, Whatever, whatever, run-keeps, length-kept}
+use Rattle.imp.specs.Theorem.Keep.{Every, Whatever, whatever, run-keeps, length-kept}
 
 -- each number of a list is of 32 bits
 abbrev pub AllFit : Numbers → Type 0

@@ -1,8 +1,8 @@
 -- Figure 5.6 (condition 2): over a set that has a setting the rules derive one value, and in each setting of the set it is the value in that setting.
 -- The idea: the derivation is a function of the set and the expression, written here as `valueOver` and `truthOver`.
-use mathlib.Core.Path.{_≡_, refl, sym, _∙_, ap, ap₂}
+use mathlib.Core.Path.{_≡_, refl, sym, _∙_}
 use Prim.Native.Nat.{ℕ, _<_}
-use mathlib.Core.Bool.{Bool, true, false, not, _&&_, cond, true≢false, false≢true}
+use mathlib.Core.Bool.{Bool, true, false, not, _&&_, cond, true≢false}
 use lib.IntN.{ℤ, _+ℤ_}
 use lib.Signed.{ltZ}
 use Rattle.imp.specs.Numbers.{wrap}
@@ -11,7 +11,7 @@ use Rattle.imp.specs.Routine.{Arithmetic, number, variable, sum, pick, c
 use Rattle.imp.specs.Shared.{Settings, any, valueIn, truthIn}
 use Rattle.imp.specs.Rules.Variational.{Varied, sat, unsat, _∩_, negation, one, choose, lift, lift2, Store, lookup, whenTrue, whenFalse}
 use Rattle.imp.specs.Rules.Figure56.{VA⇓, VA-NUM, VA-REF, VA-ADD, VA-CHC1, VA-CHC2, VA-CHC3, VA-PICK1, VA-PICK2, VA-PICK3, VB⇓, VB-FALSE, VB-TRUE, VB-NOT, VB-AND, VB-LESS, VB-CHC1, VB-CHC2, VB-CHC3}
-use Rattle.imp.specs.Theorem.Sets.{any-true, any-has, and-true}
+use Rattle.imp.specs.Theorem.Sets.{any-true, any-has}
 
 -- ---- the derivation as a function
 

@@ -1,14 +1,14 @@
 -- What the rules of Figure 5.8 derive from a start is one world.
 -- The idea: induction on one derivation; of the other the last rule is read off, and its premises are brought to the same start.
 use mathlib.Core.Path.{_≡_, refl, sym, _∙_, ap, subst, subst₂}
-use mathlib.Core.List.{List, [], _∷_}
+use mathlib.Core.List.{[], _∷_}
 use Prim.Native.Nat.{ℕ}
 use mathlib.Core.Bool.{Bool, true≢false}
 use native.Mathlib.Omega.{arith}
 use lib.IntN.{ℤ}
 use Rattle.imp.specs.Condition.{Condition, holds}
 use Rattle.imp.specs.Routine.{Arithmetic, Boolean, Statement, skip, assign, sequence, if, while, throw, try, choice}
-use Rattle.imp.specs.Shared.{Settings, any}
+use Rattle.imp.specs.Shared.{Settings}
 use Rattle.imp.specs.Rules.Variational.{Varied, sat, unsat, _∩_, negation, Store, update, whenTrue, whenFalse, Error, Frame, Stack, catchCtx, extract, Counts, World, world, ctx, made-out, begun}
 use Rattle.imp.specs.Rules.Figure56.{VA⇓, VB⇓}
 use Rattle.imp.specs.Rules.Figure58.{Judgement, ⇓V, ⇓VS, Vimp, V-SAT, V-UNSAT, VS-SKIP, VS-ASSN, VS-SEQ, VS-IF, VS-WHILE, VS-THROW, VS-TRY, VS-CATCH, VS-CHC}

@@ -1,4 +1,4 @@
--- Wrapping: what comes out has 32 bits, a number of 32 bits stays, and a sum wraps as the machine's sum of the bits does. Assumes nothing.
+-- Wrapping: what comes out has 32 bits, a number of 32 bits stays, and a sum wraps as the machine's sum of the bits does.
 use mathlib.Core.Path.{_≡_, refl, _∙_, ap}
 use mathlib.Core.Bool.{Bool, true, false, cond}
 use Prim.Native.Nat.{ℕ, suc, _+_, _-_, _%_, _^_, _<_}

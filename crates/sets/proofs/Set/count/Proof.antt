@@ -1,4 +1,4 @@
--- `Set::count` meets its contract: the ones of a 64-bit number are its members. Assumes nothing.
+-- `Set::count` meets its contract: the ones of a 64-bit number are its members.
 use native.Mathlib.Omega.{arith}
 use Rattle.sets.proofs.Counts.{ones-members}
 use Rattle.sets.proofs.Set.count.Statement.{statement}

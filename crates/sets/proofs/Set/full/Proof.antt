@@ -1,4 +1,4 @@
--- `Set::full` meets its contract. The mask is all 64 settings shifted down to the first 2 ^ f, a number whose members are known. Assumes nothing.
+-- `Set::full` meets its contract. The mask is all 64 settings shifted down to the first 2 ^ f, a number whose members are known.
 use mathlib.Core.Path.{_≡_, ap, _∙_}
 use Prim.Native.Nat.{ℕ, _+_, _-_, _*_, _/_, _%_, _^_, _≤_, _<_}
 use native.Mathlib.Omega.{arith}

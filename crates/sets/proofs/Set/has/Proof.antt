@@ -1,4 +1,4 @@
--- `Set::has` meets its contract: a shift and a mask below 64, and no member from 64 on. Assumes nothing.
+-- `Set::has` meets its contract: a shift and a mask below 64, and no member from 64 on.
 use mathlib.Core.Path.{sym}
 use native.Mathlib.Omega.{arith}
 use borrow.Author.Needs.{needs}

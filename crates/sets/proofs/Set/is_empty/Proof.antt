@@ -1,4 +1,4 @@
--- `Set::is_empty` meets its contract: of the 64-bit numbers only 0 has no member. Assumes nothing.
+-- `Set::is_empty` meets its contract: of the 64-bit numbers only 0 has no member.
 use native.Mathlib.Omega.{arith}
 use Rattle.sets.proofs.Counts.{none-counted}
 use Rattle.sets.proofs.Set.is_empty.Statement.{statement}

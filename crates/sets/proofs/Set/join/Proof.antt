@@ -1,4 +1,4 @@
--- `Set::join` meets its contract, by the law of an or. Assumes nothing.
+-- `Set::join` meets its contract, by the law of an or.
 use Rattle.sets.proofs.Laws.{bit-or}
 use Rattle.sets.proofs.Set.join.Statement.{statement}
 use Rattle.sets.proofs.Set.join.Tie as tie

@@ -1,4 +1,4 @@
--- `Set::meet` meets its contract, by the law of a mask. Assumes nothing.
+-- `Set::meet` meets its contract, by the law of a mask.
 use Rattle.sets.proofs.Laws.{bit-and}
 use Rattle.sets.proofs.Set.meet.Statement.{statement}
 use Rattle.sets.proofs.Set.meet.Tie as tie

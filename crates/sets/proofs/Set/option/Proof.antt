@@ -1,4 +1,4 @@
--- `Set::option` meets its contract: by the table's rule below 6, and there is no option from 6 on. Assumes nothing.
+-- `Set::option` meets its contract: by the table's rule below 6, and there is no option from 6 on.
 use mathlib.Core.Path.{sym, _∙_}
 use mathlib.Core.List.{List, [], _∷_}
 use Prim.Native.Nat.{ℕ}

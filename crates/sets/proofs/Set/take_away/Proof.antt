@@ -1,4 +1,4 @@
--- `Set::take_away` meets its contract, by the law of a complement at 64 bits. Assumes nothing.
+-- `Set::take_away` meets its contract, by the law of a complement at 64 bits.
 use native.Mathlib.Omega.{arith}
 use Rattle.sets.proofs.Laws.{bit-take-away}
 use Rattle.sets.proofs.Set.take_away.Statement.{statement}

@@ -1,4 +1,4 @@
--- `Set::with` meets its contract: what is joined is one setting alone. Assumes nothing.
+-- `Set::with` meets its contract: what is joined is one setting alone.
 use mathlib.Core.Path.{_≡_, _∙_}
 use mathlib.Core.Bool.{_&&_, and-true, and-false, or-false}
 use Prim.Native.Nat.{ℕ, _*_, _%_, _^_, _<_}

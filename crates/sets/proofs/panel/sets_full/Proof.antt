@@ -1,4 +1,4 @@
--- `sets_full` meets its contract: the bits of a full set, or 0 for a refusal, which no full set is. Assumes nothing.
+-- `sets_full` meets its contract: the bits of a full set, or 0 for a refusal, which no full set is.
 use mathlib.Core.Path.{_≡_, refl, ap, subst, _∙_}
 use mathlib.Core.Bool.{Bool, true, false, _&&_}
 use Prim.Native.Nat.{ℕ, _-_, _^_}

@@ -1,4 +1,4 @@
--- `sets_full_refusal` meets its contract: the number is the one that `Set::full` gives the refusal. Assumes nothing.
+-- `sets_full_refusal` meets its contract: the number is the one that `Set::full` gives the refusal.
 use mathlib.Core.Path.{sym, ap, _∙_}
 use borrow.Author.Needs.{needs}
 use Rattle.sets.specs.Member.{verdictOf, numberOf}
