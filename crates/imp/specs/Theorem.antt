@@ -21,3 +21,5 @@ pub mod VimpRules
 pub mod VimpTry
 pub mod VimpWhile
 pub mod VimpStatements
+pub mod Table
+pub mod Slips

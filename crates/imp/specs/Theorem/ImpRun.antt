@@ -32,6 +32,19 @@ unfolding turns
 turns-pass zero b t g S E k e = refl
 turns-pass (suc m) b t g S E k e = begun-dead b _ S E k e
 
+-- ---- what is live with its budget spent is out at any statement
+
+pub spent-out : (b : ℕ) (s : Statement ⊥) (S : Numbers) (k : ℕ) → b ≤ k → run b s (state S done k) ≡ state S out k
+unfolding run turns
+spent-out b skip S k h = runs-out b _ S k h
+spent-out b (assign v a) S k h = runs-out b _ S k h
+spent-out b (sequence x y) S k h = runs-out b _ S k h
+spent-out b (if t x y) S k h = runs-out b _ S k h
+spent-out b (while t x) S k h = runs-out b _ S k h
+spent-out b (throw a) S k h = runs-out b _ S k h
+spent-out b (try x v y) S k h = runs-out b _ S k h
+spent-out b (choice c x y) S k h = absurd c
+
 -- ---- what the rules derive is run
 
 -- the rules that the thesis states for any error context E: begun in none, passed by in an error
@@ -76,17 +89,7 @@ derived (S-CATCH {S} {s′} {x} {k} d d′) b n m q h = Begin.begins b _ S n (om
 -- what the rules of a cut derive is out, with the whole budget used
 pub cut : {S S′ : Numbers} {s : Statement ⊥} {r : ℕ} → C⇓ S s S′ r → (b n : ℕ) → n + r ≡ b → run b s (state S done n) ≡ state S′ out b
 unfolding run handled taken code in-fault outcome-of live
-cut (C-SPENT {S} {s}) b n q = spent b s S n (omega arith) ∙ ap (state S out) (omega arith)
-  where
-    spent : (b : ℕ) (s : Statement ⊥) (S : Numbers) (n : ℕ) → b ≤ n → run b s (state S done n) ≡ state S out n
-    spent b skip S n h = runs-out b _ S n h
-    spent b (assign v a) S n h = runs-out b _ S n h
-    spent b (sequence x y) S n h = runs-out b _ S n h
-    spent b (if t x y) S n h = runs-out b _ S n h
-    spent b (while t x) S n h = while-again b t x _ ∙ runs-out b _ S n h
-    spent b (throw a) S n h = runs-out b _ S n h
-    spent b (try x v y) S n h = runs-out b _ S n h
-    spent b (choice c x y) S n h = absurd c
+cut (C-SPENT {S} {s}) b n q = spent-out b s S n (omega arith) ∙ ap (state S out) (omega arith)
 cut (C-SEQ1 {S} {S′} {s′} c) b n q = Begin.begins b _ S n (omega arith) ∙ ap (run b s′) (cut c b (suc n) (omega arith)) ∙ passes b s′ S′ out b refl
 cut (C-SEQ2 {S} {s′} {k} d c) b n q = Begin.begins b _ S n (omega arith)
     ∙ ap (run b s′) (derived d b (suc n) (suc n + k) refl (omega arith)) ∙ cut c b (suc n + k) (omega arith)
