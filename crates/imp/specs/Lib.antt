@@ -2,6 +2,8 @@
 pub mod Condition
 pub mod Routine
 pub mod Configure
+pub mod Embed
+pub mod Valid
 pub mod Numbers
 pub mod State
 pub mod Plain

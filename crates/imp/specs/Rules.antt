@@ -1,4 +1,5 @@
--- The thesis's rules as printed, a constructor for each under its own name, with document 01's counts. What they derive is in `Theorem`.
+-- The thesis's rules, a constructor for each under its own name, with document 01's counts; docs/THESIS.md has each as printed and says where they differ.
+-- What they derive is in `Theorem`.
 pub mod Figure42
 pub mod Figure43
 pub mod CutOff

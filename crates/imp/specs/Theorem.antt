@@ -10,6 +10,8 @@ pub mod WhileShared
 pub mod ImpExpressions
 pub mod ImpRun
 pub mod ImpStatements
+pub mod Configured
+pub mod Beyond
 pub mod Range
 pub mod VimpExpressions
 pub mod Live

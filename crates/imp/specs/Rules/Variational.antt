@@ -102,9 +102,10 @@ confErr (l ∷ E) s = cond (erring l s) (extract l s) (confErr E s)
 
 -- ---- document 01's counts
 
+-- the steps of each setting, who is out, the visits
 pub record Counts : Type 0 where
   pub steps : ℕ → ℕ
-  pub spent : Settings
+  pub outs : Settings
   pub visits : ℕ
 
 -- what a statement is run in: the store, the errors, the counts
@@ -118,7 +119,7 @@ world S E K = record { store = S; errors = E; counts = K }
 
 -- Figure 5.4's ctx with the negation that its text asks for; who is out runs no more either: "the live settings it is run for"
 unfoldable pub ctx : Settings → Stack → Counts → Settings
-ctx C E K s = C s && (not (in-error E s) && not ((K .spent) s))
+ctx C E K s = C s && (not (in-error E s) && not ((K .outs) s))
 
 -- "a choice does so by its condition, without visit or step"
 unfoldable pub counted : {C : Type 0} → Statement C → Bool
@@ -135,7 +136,7 @@ counted (choice c s s′) = false
 unfoldable pub made-out : ℕ → Statement Condition → Settings → Stack → Counts → Counts
 made-out budget s C E K = record {
   steps = K .steps;
-  spent = λ i. (counted s && (ctx C E K i && not (ltb ((K .steps) i) budget))) || (K .spent) i;
+  outs = λ i. (counted s && (ctx C E K i && not (ltb ((K .steps) i) budget))) || (K .outs) i;
   visits = K .visits;
 }
 
@@ -143,13 +144,13 @@ made-out budget s C E K = record {
 unfoldable pub begun : Statement Condition → Settings → Stack → Counts → Counts
 begun s C E K = record {
   steps = λ i. cond (counted s && ctx C E K i) (suc ((K .steps) i)) ((K .steps) i);
-  spent = K .spent;
+  outs = K .outs;
   visits = cond (counted s) (suc (K .visits)) (K .visits);
 }
 
 -- the error context at the start, one empty frame, and nothing counted
 unfoldable pub nothing-yet : Counts
-nothing-yet = record { steps = λ i. 0; spent = λ i. false; visits = 0 }
+nothing-yet = record { steps = λ i. 0; outs = λ i. false; visits = 0 }
 
 unfoldable pub at-start : Store → World
 at-start S = world S ([] ∷ []) nothing-yet
@@ -158,7 +159,7 @@ at-start S = world S ([] ∷ []) nothing-yet
 
 -- what a world says of setting i: of one outside the set D that it is idle
 unfoldable pub outcome-in : Settings → Stack → Counts → ℕ → Outcome
-outcome-in D E K i = cond (D i) (cond ((K .spent) i) out (cond (in-error E i) (fault (confErr E i)) done)) idle
+outcome-in D E K i = cond (D i) (cond ((K .outs) i) out (cond (in-error E i) (fault (confErr E i)) done)) idle
 
 unfoldable pub conf : Settings → World → ℕ → State
 conf D X i = record { numbers = (X .store) i; outcome = outcome-in D (X .errors) (X .counts) i; steps = (X .counts .steps) i }

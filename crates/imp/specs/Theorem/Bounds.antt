@@ -72,10 +72,10 @@ for-bounds N f e = record {
 }
 
 -- reaching a statement
-counted : (b : Bool) (budget : ℕ) (σ : State) → (cond b (enter budget σ) σ) .steps ≡ cond (b && ready budget σ) (suc (σ .steps)) (σ .steps)
+counted-steps : (b : Bool) (budget : ℕ) (σ : State) → (cond b (enter budget σ) σ) .steps ≡ cond (b && ready budget σ) (suc (σ .steps)) (σ .steps)
 unfolding enter
-counted true budget σ = refl
-counted false budget σ = refl
+counted-steps true budget σ = refl
+counted-steps false budget σ = refl
 
 up-to : (b : Bool) (k : ℕ) → (cond b (suc k) k ≤ suc k) × (k ≤ cond b (suc k) k)
 up-to true k = omega arith
@@ -88,12 +88,12 @@ module _ (N budget : ℕ) where
   left : Settings → Shared → Settings
   left S Σ = where-true (λ s. ready budget) S Σ
 
-  reached : (S : Settings) (Σ : Shared) (s : ℕ) → steps-at (entered S Σ) s ≡ cond (left S Σ s) (suc (steps-at Σ s)) (steps-at Σ s)
+  reached-steps : (S : Settings) (Σ : Shared) (s : ℕ) → steps-at (entered S Σ) s ≡ cond (left S Σ s) (suc (steps-at Σ s)) (steps-at Σ s)
   unfolding entered left for where-true
-  reached S Σ s = counted (S s) budget (Σ .at s)
+  reached-steps S Σ s = counted-steps (S s) budget (Σ .at s)
 
   rises : (S : Settings) (Σ : Shared) (s : ℕ) → steps-at Σ s ≤ steps-at (entered S Σ) s
-  rises S Σ s = omega (arith, reached S Σ s, up-to (left S Σ s) (steps-at Σ s))
+  rises S Σ s = omega (arith, reached-steps S Σ s, up-to (left S Σ s) (steps-at Σ s))
 
   begun-bounds : {f : Settings → Shared → Shared} → Bounded N f → Bounded N (begun N budget f)
   unfolding begun visited entered left for
@@ -101,12 +101,12 @@ module _ (N budget : ℕ) where
     where
       go : (S : Settings) (Σ : Shared) (b : Bool) → any N (left S Σ) ≡ b → Bounds N Σ (begun N budget f S Σ)
       go S Σ true e = rw (e, begun) (bounds-trans (record {
-        least = λ s h. omega (arith, reached S Σ s, up-to (left S Σ s) (steps-at Σ s));
-        most = omega (arith, total-lt N (steps-at Σ) (steps-at (entered S Σ)) (left S Σ) (rises S Σ) (λ s p. omega (arith, rw p at (reached S Σ s))) e);
+        least = λ s h. omega (arith, reached-steps S Σ s, up-to (left S Σ s) (steps-at Σ s));
+        most = omega (arith, total-lt N (steps-at Σ) (steps-at (entered S Σ)) (left S Σ) (rises S Σ) (λ s p. omega (arith, rw p at (reached-steps S Σ s))) e);
       })
           (a .bounds (left S Σ) (visited (entered S Σ))))
       go S Σ false e = rw (e, begun) (record {
-        least = λ s h. omega (arith, rw (any-false N (left S Σ) e s h) at (reached S Σ s));
+        least = λ s h. omega (arith, rw (any-false N (left S Σ) e s h) at (reached-steps S Σ s));
         most = omega (arith, total-le N (steps-at Σ) (steps-at (entered S Σ)) (rises S Σ));
       })
 
@@ -144,7 +144,7 @@ module _ (N budget : ℕ) (t : Statement Condition) (S : Settings) (numbers : �
   unfolding shared-run
   whole = (bounded N budget t) .bounds S (start S numbers)
 
-  -- no step is counted before the run
+  -- no step is counted-steps before the run
   none-yet : (s : ℕ) → steps-at (start S numbers) s ≡ 0
   unfolding start
   none-yet s = zero-steps (S s) (numbers s)

@@ -1,7 +1,7 @@
 -- A shared run is a run of the live settings of its set: two sets with the same live settings give the same run, and one with none gives none.
 use mathlib.Core.Path.{_≡_, refl, sym, _∙_, ap, ap₂, fun-ext}
 use Prim.Native.Nat.{ℕ, zero, suc, _<_}
-use mathlib.Core.Bool.{Bool, true, false, not, _&&_, cond, true≢false}
+use mathlib.Core.Bool.{Bool, true, false, not, _&&_, cond, true≢false, false≢true}
 use native.Mathlib.Decide.{decLt}
 use lib.Dec.{ltb}
 use Rattle.imp.specs.Condition.{Condition, holds}
@@ -9,7 +9,7 @@ use Rattle.imp.specs.Routine.{Statement, skip, assign, sequence, if, whi
 use Rattle.imp.specs.Configure.{configure}
 use Rattle.imp.specs.State.{branch, State, live, ready, enter}
 use Rattle.imp.specs.Shared.{Settings, any, Shared, for, visited, where-true, begun, turns, shared}
-use Rattle.imp.specs.Theorem.Sets.{same-cond}
+use Rattle.imp.specs.Theorem.Sets.{same-cond, and-true}
 use Rattle.imp.specs.Theorem.Begin.{enter-dead}
 use Rattle.imp.specs.Theorem.ImpRun.{passes}
 use Rattle.imp.specs.Theorem.Agreement.{agrees}
@@ -79,7 +79,7 @@ module _ (N b : ℕ) where
       go (no p) = none C h p ∙ sym (none C′ h′ p)
 
   below-part : (C P : Settings) → Below N C → Below N (λ s. C s && P s)
-  below-part C P h s e = h s (Rattle.imp.specs.Theorem.Sets.and-true (C s) (P s) e .0)
+  below-part C P h s e = h s (and-true (C s) (P s) e .0)
 
   pub same-live : (t : Statement Condition) (C C′ : Settings) (Σ : Shared) → Below N C → Below N C′ → SameLive Σ C C′ → shared N b t C Σ ≡ shared N b t C′ Σ
   unfolding shared turns
@@ -115,3 +115,11 @@ module _ (N b : ℕ) where
   none-runs (throw a) Σ = begun-none _ Σ
   none-runs (try x v y) Σ = begun-none _ Σ
   none-runs (choice c x y) Σ = none-runs y _ ∙ none-runs x Σ
+
+  -- "A part with no live setting is not entered."
+  pub not-entered : (t : Statement Condition) (S : Settings) (Σ : Shared) → Below N S → ((s : ℕ) → S s ≡ true → alive Σ s ≡ false) → shared N b t S Σ ≡ Σ
+  not-entered t S Σ h none = same-live t S (λ s. false) Σ h (λ s e. absurd (false≢true e)) (λ s a. go s a (S s) refl) ∙ none-runs t Σ
+    where
+      go : (s : ℕ) → alive Σ s ≡ true → (u : Bool) → S s ≡ u → S s ≡ false
+      go s a true e = absurd (true≢false (sym a ∙ none s e))
+      go s a false e = e

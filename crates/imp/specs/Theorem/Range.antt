@@ -9,15 +9,17 @@ use lib.IntN.{ℤ, pos}
 use lib.ListN.{getD, set, length}
 use mir.Syntax.{w32}
 use mir.Val.{SFits}
-use Rattle.imp.specs.Condition.{Condition, holds}
+use Rattle.imp.specs.Condition.{Condition}
 use Rattle.imp.specs.Routine.{Arithmetic, number, variable, sum, pick, choiceᵃ, Statement, skip, assign, sequence, if, while, throw, try, choice}
-use Rattle.imp.specs.Configure.{configure, configureᵃ}
+use Rattle.imp.specs.Configure.{configure}
+use Rattle.imp.specs.Valid.{Validᵃ, Valid}
 use Rattle.imp.specs.State as State
 use Rattle.imp.specs.State.{Numbers, Outcome, out, State, code, ready, spent, enter, store, fresh, untouched}
 use Rattle.imp.specs.Plain.{value, truth, run, plain-run}
 use Rattle.imp.specs.Shared.{Settings, shared-run}
 use Rattle.imp.specs.Theorem.Wrap.{wrap-fits}
 use Rattle.imp.specs.Theorem.Begin.{ready-lt}
+use Rattle.imp.specs.Theorem.Configured.{configured-valid}
 use Rattle.imp.specs.Theorem.Agreement.{agreement, outside}
 use Rattle.imp.specs.Theorem.Keep.{Every, Whatever, whatever, run-keeps, length-kept}
 
@@ -39,25 +41,29 @@ set-fits [] v n f h = tt
 set-fits (m ∷ ns) zero n f h = (h, f .1)
 set-fits (m ∷ ns) (suc v) n f h = (f .0, set-fits ns v n (f .1) h)
 
--- the numbers written in an expression are of 32 bits, as an image's are; those in a test are never stored
-abbrev pub Literals : {C : Type 0} → Arithmetic C → Type 0
-Literals (number n) = SFits w32 n
-Literals (variable v) = Unit {0}
-Literals (sum a b) = Unit {0}
-Literals (pick e a b) = Literals a × Literals b
-Literals (choiceᵃ c a b) = Literals a × Literals b
-
 cond-fits : (b : Bool) (m n : ℤ) → SFits w32 m → SFits w32 n → SFits w32 (cond b m n)
 cond-fits true m n h k = h
 cond-fits false m n h k = k
 
-value-fits : (a : Arithmetic ⊥) (ns : Numbers) → Literals a → AllFit ns → SFits w32 (value a ns)
-unfolding value
+value-fits : (a : Arithmetic ⊥) (ns : Numbers) → Validᵃ a → AllFit ns → SFits w32 (value a ns)
+unfolding value Validᵃ
 value-fits (number n) ns l f = l
 value-fits (variable v) ns l f = getD-fits ns v f
 value-fits (sum a b) ns l f = wrap-fits _
-value-fits (pick e a b) ns l f = cond-fits (truth e ns) _ _ (value-fits a ns (l .0) f) (value-fits b ns (l .1) f)
+value-fits (pick e a b) ns l f = cond-fits (truth e ns) _ _ (value-fits a ns (l .1) f) (value-fits b ns (l .2) f)
 value-fits (choiceᵃ c a b) ns l f = absurd c
+
+-- the expressions whose values a valid routine assigns or throws are valid
+every-valid : (t : Statement ⊥) → Valid t → Every Validᵃ t
+unfolding Valid
+every-valid skip h = tt
+every-valid (assign v a) h = h .1
+every-valid (sequence x y) h = (every-valid x (h .0), every-valid y (h .1))
+every-valid (if e x y) h = (every-valid x (h .1), every-valid y (h .2))
+every-valid (while e x) h = every-valid x (h .1)
+every-valid (throw a) h = h
+every-valid (try x v y) h = (every-valid x (h .0), every-valid y (h .2))
+every-valid (choice c x y) h = absurd c
 
 -- ---- a plain run
 
@@ -73,16 +79,16 @@ entered-steps : (t : Bool) (k b : ℕ) → (t ≡ true → k < b) → k ≤ b �
 entered-steps true k b h i = h refl
 entered-steps false k b h i = i
 
-run-fits : (b : ℕ) (t : Statement ⊥) → Every Literals t → (σ : State) → good σ → good (run b t σ)
+run-fits : (b : ℕ) (t : Statement ⊥) → Valid t → (σ : State) → good σ → good (run b t σ)
 unfolding good store State.thrown State.taken enter code
-run-fits b t l = run-keeps {A = Literals} {R = λ σ σ′. good σ → good σ′} (record {
+run-fits b t l = run-keeps {A = Validᵃ} {R = λ σ σ′. good σ → good σ′} (record {
   none = λ σ g. g;
   then = λ h k g. k (h g);
   entered = λ σ g. (g .0, entered-code (spent b σ) (σ .outcome) (g .1));
   stored = λ v a w σ g. (set-fits (σ .numbers) v _ (g .0) (value-fits a (σ .numbers) w (g .0)), g .1);
   thrown = λ a w σ g. (g .0, value-fits a (σ .numbers) w (g .0));
   taken = λ v σ g. (set-fits (σ .numbers) v _ (g .0) (g .1), zero-fits);
-}) t l
+}) t (every-valid t l)
 
 run-steps : (b : ℕ) (t : Statement ⊥) (σ : State) → σ .steps ≤ b → (run b t σ) .steps ≤ b
 unfolding store State.thrown State.taken enter
@@ -103,7 +109,7 @@ pub record InRange (b : ℕ) (ns : Numbers) (σ : State) : Type 0 where
   pub variables : length (σ .numbers) ≡ length ns
   pub within : σ .steps ≤ b
 
-pub plain-range : (b : ℕ) (t : Statement ⊥) (ns : Numbers) → Every Literals t → AllFit ns → InRange b ns (plain-run b t ns)
+pub plain-range : (b : ℕ) (t : Statement ⊥) (ns : Numbers) → Valid t → AllFit ns → InRange b ns (plain-run b t ns)
 unfolding plain-run fresh good code
 plain-range b t ns l f =
     let g : good (run b t (fresh ns)) = run-fits b t l (fresh ns) (f, zero-fits) in
@@ -114,39 +120,11 @@ plain-range b t ns l f =
       within = run-steps b t (fresh ns) (omega arith);
     }
 
--- configuring writes no number of its own
-literals-kept : (s : ℕ) (a : Arithmetic Condition) → Literals a → Literals (configureᵃ s a)
-unfolding configureᵃ
-literals-kept s (number n) l = l
-literals-kept s (variable v) l = tt
-literals-kept s (sum a b) l = tt
-literals-kept s (pick e a b) l = (literals-kept s a (l .0), literals-kept s b (l .1))
-literals-kept s (choiceᵃ c a b) l = go (holds c s) (literals-kept s a (l .0)) (literals-kept s b (l .1))
-  where
-    go : (u : Bool) → Literals (configureᵃ s a) → Literals (configureᵃ s b) → Literals (cond u (configureᵃ s a) (configureᵃ s b))
-    go true h k = h
-    go false h k = k
-
-pub configured-literals : (s : ℕ) (t : Statement Condition) → Every Literals t → Every Literals (configure s t)
-unfolding configure
-configured-literals s skip l = tt
-configured-literals s (assign v a) l = literals-kept s a l
-configured-literals s (sequence x y) l = (configured-literals s x (l .0), configured-literals s y (l .1))
-configured-literals s (if e x y) l = (configured-literals s x (l .0), configured-literals s y (l .1))
-configured-literals s (while e x) l = configured-literals s x l
-configured-literals s (throw a) l = literals-kept s a l
-configured-literals s (try x v y) l = (configured-literals s x (l .0), configured-literals s y (l .1))
-configured-literals s (choice c x y) l = go (holds c s) (configured-literals s x (l .0)) (configured-literals s y (l .1))
-  where
-    go : (u : Bool) → Every Literals (configure s x) → Every Literals (configure s y) → Every Literals (cond u (configure s x) (configure s y))
-    go true h k = h
-    go false h k = k
-
-pub shared-range : (N b : ℕ) (t : Statement Condition) (S : Settings) (numbers : ℕ → Numbers) → Every Literals t
+pub shared-range : (N b : ℕ) (t : Statement Condition) (S : Settings) (numbers : ℕ → Numbers) → Valid t
     → (s : ℕ) → s < N → AllFit (numbers s) → InRange b (numbers s) ((shared-run N b t S numbers) .at s)
 unfolding untouched code
 shared-range N b t S numbers l s h f = go (S s) refl
   where
     go : (u : Bool) → S s ≡ u → InRange b (numbers s) ((shared-run N b t S numbers) .at s)
-    go true e = rw (agreement N b t S numbers s h e) (plain-range b (configure s t) (numbers s) (configured-literals s t l) f)
+    go true e = rw (agreement N b t S numbers s h e) (plain-range b (configure s t) (numbers s) (configured-valid s t l) f)
     go false e = rw (outside N b t S numbers s h e) (record { numbers-fit = f; code-fits = zero-fits; variables = refl; within = omega arith })

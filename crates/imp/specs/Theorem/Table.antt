@@ -1,4 +1,4 @@
--- "Checked by hand": cases (a) to (e) and (g) to (j), and three more on a spent budget, (k) to (m), as one table whose rows the checker computes.
+-- "Checked by hand": cases (a) to (e) and (g) to (j), three more on a spent budget, (k) to (m), and one on faults, (n), as one table whose rows the checker computes.
 -- Case (f) speaks of bytes.
 use mathlib.Core.Path.{_≡_, refl}
 use mathlib.Core.Bool.{Bool, true, false}
@@ -47,6 +47,10 @@ J = throw (num 0)
 -- a try whose body never ends, with a number in the variable that it would store to
 unfoldable pub M : Statement Condition
 M = sequence (assign 1 (num 5)) (try (while trueᵇ skip) 1 skip)
+
+-- a handler that throws: fault 0 is taken, its own fault is not
+unfoldable pub T : Statement Condition
+T = sequence (assign 1 (num 4)) (try (throw (num 0)) 1 (throw (num 5)))
 
 -- ---- the rows
 
@@ -127,14 +131,17 @@ table =
     -- (m), a body that runs out is not caught: variable 1 keeps its 5
     ∷ shared-end M 3 6 0 (3, pos 0, 6, three 0 5 0) 6
     ∷ shared-end M 3 6 1 (3, pos 0, 6, three 0 5 0) 6
+    -- (n), "Fault 0 is a fault", and "A fault from the handler is not taken by that same try."
+    ∷ shared-end T 3 100 0 (2, pos 5, 5, three 0 0 0) 5
+    ∷ shared-end T 3 100 1 (2, pos 5, 5, three 0 0 0) 5
     ∷ []
 
 -- opens all that a run computes with
 opened : Unit {0}
-unfolding digit bit truthIn on-in holds H G L I J M configure configureᵃ low32 signed32 wrap outcome-number code live in-fault store thrown taken ready spent enter
+unfolding digit bit truthIn on-in holds H G L I J M T configure configureᵃ low32 signed32 wrap outcome-number code live in-fault store thrown taken ready spent enter
     fresh untouched value Plain.begun run plain-run valueIn any for visited where-true where-false begun turns shared start shared-run beyond
 opened = tt
 
 pub checked : All table
 unfolding opened
-checked = (refl, (refl, (refl, (refl, (refl, (refl, (refl, (refl, (refl, (refl, (refl, (refl, (refl, (refl, (refl, (refl, (refl, (refl, (refl, (refl, (refl, (refl, (refl, (refl, (refl, (refl, tt))))))))))))))))))))))))))
+checked = (refl, (refl, (refl, (refl, (refl, (refl, (refl, (refl, (refl, (refl, (refl, (refl, (refl, (refl, (refl, (refl, (refl, (refl, (refl, (refl, (refl, (refl, (refl, (refl, (refl, (refl, (refl, (refl, tt))))))))))))))))))))))))))))

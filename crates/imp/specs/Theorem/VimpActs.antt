@@ -74,7 +74,7 @@ module _ (D C : Settings) (w : Within C D) (l : Frame) (E : Stack) (K : Counts) 
   -- the settings in which the body ended in fault
   pub caught-is : (s : ℕ) → ctx (catchCtx C l) E K′ s ≡ where-true (λ s σ. in-fault (σ .outcome)) (ctx C E K) (seen D (world S′ (l ∷ E) K′)) s
   unfolding ctx catchCtx where-true seen conf outcome-in in-error confErr
-  caught-is s = caught-table (C s) (D s) (erring l s) (in-error E s) ((K .spent) s) ((K′ .spent) s) (extract l s) (confErr E s) (w s)
+  caught-is s = caught-table (C s) (D s) (erring l s) (in-error E s) ((K .outs) s) ((K′ .outs) s) (extract l s) (confErr E s) (w s)
       (λ r. ctx-in C E K s (fresh s r))
 
   -- the state once their numbers are stored and their faults cleared
@@ -82,7 +82,7 @@ module _ (D C : Settings) (w : Within C D) (l : Frame) (E : Stack) (K : Counts) 
       ≡ for (ctx (catchCtx C l) E K′) (λ s. taken x) (seen D (world S′ (l ∷ E) K′))
   unfolding seen conf outcome-in in-error confErr update for ctx catchCtx
   taken-is x = ap (λ f. record { at = f; visits = K′ .visits }) (fun-ext λ s.
-      taken-table (C s) (D s) (erring l s) (in-error E s) ((K′ .spent) s) (extract l s) (confErr E s) x ((K′ .steps) s) (S′ s) (w s)
+      taken-table (C s) (D s) (erring l s) (in-error E s) ((K′ .outs) s) (extract l s) (confErr E s) x ((K′ .steps) s) (S′ s) (w s)
       (λ r. let f = ctx-in C E K s (fresh s r) in (f .0, f .1)))
 
 -- an empty frame says nothing, and catches nobody
@@ -98,6 +98,6 @@ pub nobody-caught : (C : Settings) (E : Stack) (K : Counts) (s : ℕ) → ctx (c
 unfolding ctx catchCtx erring
 nobody-caught C E K s = go (C s)
   where
-    go : (c : Bool) → (c && false) && (not (in-error E s) && not ((K .spent) s)) ≡ false
+    go : (c : Bool) → (c && false) && (not (in-error E s) && not ((K .outs) s)) ≡ false
     go true = refl
     go false = refl

@@ -88,7 +88,7 @@ module _ (N b : ℕ) (D : Settings) (below : Below N D) where
   -- who is not made out was live before
   pub made-out-live : (t : Statement Condition) (C : Settings) (E : Stack) (K : Counts) (s : ℕ) → ctx C E (made-out b t C E K) s ≡ true → ctx C E K s ≡ true
   unfolding ctx made-out
-  made-out-live t C E K s h = go (C s) (in-error E s) ((K .spent) s) (counted t && (ctx C E K s && not (ltb ((K .steps) s) b))) h
+  made-out-live t C E K s h = go (C s) (in-error E s) ((K .outs) s) (counted t && (ctx C E K s && not (ltb ((K .steps) s) b))) h
     where
       go : (c e p x : Bool) → c && (not e && not (x || p)) ≡ true → c && (not e && not p) ≡ true
       go true false false x h = refl
@@ -159,8 +159,8 @@ module _ (N b : ℕ) (D : Settings) (below : Below N D) where
         late true i = absurd (true≢false (sym (were-live C Q w q (world S (l ∷ E) K) X′ x P e s i) ∙ d))
         late false i = i
 
-        early : (c c′ : Bool) → (c′ ≡ true → c ≡ true) → c && (not (in-error (l ∷ E) s) && not ((K .spent) s)) ≡ false
-            → c′ && (not (in-error (l ∷ E) s) && not ((K .spent) s)) ≡ false
+        early : (c c′ : Bool) → (c′ ≡ true → c ≡ true) → c && (not (in-error (l ∷ E) s) && not ((K .outs) s)) ≡ false
+            → c′ && (not (in-error (l ∷ E) s) && not ((K .outs) s)) ≡ false
         early c false h k = refl
         early true true h k = k
         early false true h k = absurd (false≢true (h refl))

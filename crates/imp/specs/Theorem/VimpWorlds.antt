@@ -36,8 +36,8 @@ meet-table false d x h = refl
 pub ctx-alive : (D C : Settings) (X : World) → Within C D → (s : ℕ) → ctx C (X .errors) (X .counts) s ≡ C s && alive (seen D X) s
 unfolding ctx seen conf outcome-in
 ctx-alive D C X w s =
-    meet-table (C s) (D s) (not (in-error (X .errors) s) && not ((X .counts .spent) s)) (w s)
-    ∙ ap (λ u. C s && u) (sym (live-table (D s) ((X .counts .spent) s) (in-error (X .errors) s) (confErr (X .errors) s)))
+    meet-table (C s) (D s) (not (in-error (X .errors) s) && not ((X .counts .outs) s)) (w s)
+    ∙ ap (λ u. C s && u) (sym (live-table (D s) ((X .counts .outs) s) (in-error (X .errors) s) (confErr (X .errors) s)))
 
 -- a setting that is live is in the set, not out and not in error
 live-facts : (c e p : Bool) → c && (not e && not p) ≡ true → (c ≡ true) × (e ≡ false) × (p ≡ false)
@@ -46,9 +46,9 @@ live-facts true true p h = absurd (false≢true h)
 live-facts true false true h = absurd (false≢true h)
 live-facts false e p h = absurd (false≢true h)
 
-pub ctx-in : (C : Settings) (E : Stack) (K : Counts) (s : ℕ) → ctx C E K s ≡ true → (C s ≡ true) × (in-error E s ≡ false) × ((K .spent) s ≡ false)
+pub ctx-in : (C : Settings) (E : Stack) (K : Counts) (s : ℕ) → ctx C E K s ≡ true → (C s ≡ true) × (in-error E s ≡ false) × ((K .outs) s ≡ false)
 unfolding ctx
-ctx-in C E K s h = live-facts (C s) (in-error E s) ((K .spent) s) h
+ctx-in C E K s h = live-facts (C s) (in-error E s) ((K .outs) s) h
 
 -- ---- beginning a statement
 
@@ -94,12 +94,12 @@ module _ (N b : ℕ) (D : Settings) (C : Settings) (w : Within C D) (t : Stateme
   -- the settings that are left
   pub left-is : (s : ℕ) → left N b C (seen D (world S E K)) s ≡ ctx C E (made-out b t C E K) s
   unfolding left where-true seen conf outcome-in ready ctx made-out
-  left-is s = rw u (left-table (C s) (D s) (in-error E s) ((K .spent) s) (ltb ((K .steps) s) b) (confErr E s) (w s))
+  left-is s = rw u (left-table (C s) (D s) (in-error E s) ((K .outs) s) (ltb ((K .steps) s) b) (confErr E s) (w s))
 
   -- a setting once the statement is begun
   begun-at : (s : ℕ) → conf D (world S E (begun t C E (made-out b t C E K))) s ≡ cond (C s) (enter b (conf D (world S E K) s)) (conf D (world S E K) s)
   unfolding conf outcome-in enter State.spent ready ctx made-out begun
-  begun-at s = rw u (enter-table (C s) (D s) (in-error E s) ((K .spent) s) (ltb ((K .steps) s) b) (confErr E s) (S s) ((K .steps) s) (w s))
+  begun-at s = rw u (enter-table (C s) (D s) (in-error E s) ((K .outs) s) (ltb ((K .steps) s) b) (confErr E s) (S s) ((K .steps) s) (w s))
 
   one-more : (begun t C E (made-out b t C E K)) .visits ≡ suc (K .visits)
   unfolding begun made-out
