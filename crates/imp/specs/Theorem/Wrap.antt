@@ -59,6 +59,10 @@ low-sum (negsuc a) (negsuc b) = omega arith
 low-toZ : (n : ℕ) → n < 2 ^ 32 → low32 (toZ w32 n) ≡ n
 low-toZ n h = low-is (toZ w32 n) (sfits-toZ (record { fits = h })) ∙ ofZ-toZ {w = w32} (record { fits = h })
 
+-- bits read as signed are the same bits
+pub low-signed : (n : ℕ) → n < 2 ^ 32 → low32 (signed32 n) ≡ n
+low-signed n h = ap low32 (signed-is n) ∙ low-toZ n h
+
 -- "wrapping add with its exact signed meaning": the sum of two readings wraps to the reading of the machine's sum
 pub wrap-sum : (a b : ℕ) → a < 2 ^ 32 → b < 2 ^ 32 → wrap (toZ w32 a +ℤ toZ w32 b) ≡ toZ w32 ((a + b) % 2 ^ 32)
 unfolding wrap

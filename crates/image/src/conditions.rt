@@ -1,0 +1,84 @@
+// The sets of an image's conditions, worked out once, bottom up: a condition may be named many times, and is looked up where it is.
+ghost use mathlib.Core.Path.{_≡_};
+ghost use mathlib.Core.Bool.{true, _&&_};
+ghost use Prim.Native.Nat.{ℕ, _+_, _*_, _≤_, _<_, _^_};
+ghost use lib.Dec.{ltb};
+ghost use lib.ListN.{length};
+ghost use Rattle.sets.specs.Member.{has};
+ghost use Rattle.image.specs.Records.{header, condition-record};
+ghost use Rattle.image.specs.Rows.{judge, condition-fits};
+ghost use Rattle.image.specs.Check.{shape-of};
+ghost use Rattle.image.specs.Sets.{in-condition, Turn, SetsOf, condition-rows, set-answer};
+ghost use Rattle.image.specs.Theorem.Accepted.{Accepted};
+use super::accept::Checked;
+use super::accept::Shape;
+use super::accept::check;
+use super::records::condition_at;
+use super::refusals::Refusal;
+use sets::Full;
+use sets::Set;
+
+pub enum ConditionSet {
+    Of(Set),
+    Refused(Refusal),
+}
+
+// The set of condition k, from the sets of the conditions before it.
+fn set_of(image: &[u8], k: usize, full: Set, sets: &[u64]) -> Set
+    requires { ⌜ Turn (now image) k (full .bits) (now sets) ⌝ }
+    ensures { λ r. ⌜ ((s : ℕ) → has r s ≡ in-condition (now (image .entry)) k s) ⌝ }
+{
+    let r = condition_at(image, k);
+    let kind = r.kind;
+    let left = r.left;
+    let right = r.right;
+    match kind {
+        0 => Set { bits: 0 },
+        1 => full,
+        2 => Set::option(full, r.option),
+        3 => full.take_away(Set { bits: sets[left] }),
+        4 => Set { bits: sets[left] }.meet(Set { bits: sets[right] }),
+        _ => Set { bits: sets[left] }.join(Set { bits: sets[right] }),
+    }
+}
+
+// All settings of an accepted image: its options are at most 6.
+fn all_settings(options: u32) -> Set
+    requires { ⌜ options ≤ 6 ⌝ }
+    ensures { λ r. ⌜ ((s : ℕ) → has r s ≡ ltb s (2 ^ options)) ⌝ }
+{
+    match Set::full(options) {
+        Full::Of(all) => all,
+        Full::Refused => Set { bits: 0 },
+    }
+}
+
+// The sets of all conditions of an accepted image, each from those before it.
+pub fn condition_sets(image: &[u8], shape: Shape) -> [u64; 256]
+    requires { ⌜ Accepted (now image) × (shape ≡ shape-of (now image)) ⌝ }
+    ensures { λ r. ⌜ SetsOf (now (image .entry)) (shape .conditions) r ⌝ }
+{
+    let full = all_settings(shape.options);
+    let conditions = shape.conditions;
+    let mut sets = [0u64; 256];
+    for k in 0..conditions {
+        sets[k] = set_of(image, k, full, &sets).bits;
+    }
+    sets
+}
+
+// "the set of settings in which a condition holds": refusals 1 to 8, 15.
+pub fn condition_set(image: &[u8], number: usize) -> ConditionSet
+    ensures { λ r. ⌜ set-answer r ≡ judge (condition-rows (now (image .entry)) number) (in-condition (now (image .entry)) number) ⌝ }
+{
+    match check(image) {
+        Checked::Refused(r) => ConditionSet::Refused(r),
+        Checked::Good(shape) => {
+            if shape.conditions <= number {
+                return ConditionSet::Refused(Refusal::ConditionBeyond);
+            }
+            let sets = condition_sets(image, shape);
+            ConditionSet::Of(Set { bits: sets[number] })
+        }
+    }
+}

@@ -1,0 +1,7 @@
+// Images: what is refused, with which number and place, and what an accepted image holds.
+pub mod accept; // accept.rt: tests 1 to 8
+pub mod conditions; // conditions.rt: the sets of conditions
+pub mod fits; // fits.rt: what one record may hold
+mod names; // names.rt: how often each node is named
+pub mod records; // records.rt: the fields of header, conditions and nodes
+pub mod refusals; // refusals.rt: document 01's refusals
