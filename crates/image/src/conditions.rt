@@ -43,7 +43,7 @@ fn set_of(image: &[u8], k: usize, full: Set, sets: &[u64]) -> Set
 }
 
 // All settings of an accepted image: its options are at most 6.
-fn all_settings(options: u32) -> Set
+pub fn all_settings(options: u32) -> Set
     requires { ⌜ options ≤ 6 ⌝ }
     ensures { λ r. ⌜ ((s : ℕ) → has r s ≡ ltb s (2 ^ options)) ⌝ }
 {

@@ -5,7 +5,7 @@ use mathlib.Core.Bool.{Bool, true, false, _&&_, cond}
 use Prim.Native.Nat.{ℕ, suc, _<_}
 use mathlib.Core.List.{List}
 use lib.Dec.{eqb}
-use borrow.Author.Tests.{ltb-true, eqb-true}
+use borrow.Author.Tests.{ltb-true, eqb-true, eq-eqb}
 use Rattle.image.specs.Records.{header, node}
 use Rattle.image.specs.Layout.{layout, variable-digit, a-digit, b-digit, c-digit, names-node, field-fits}
 use Rattle.image.specs.Rows.{node-fits, slot-fits, class, slot-classed, classed}
@@ -33,11 +33,19 @@ module _ (l : List ℕ) (C n : ℕ) (fits : node-fits C n (node l n) ≡ true) (
   abbrev c-good : Bool
   c-good = slot-classed l (c-digit digits) (node l n .c)
 
-  children : (a-good ≡ true) × (b-good ≡ true) × (c-good ≡ true)
+  abbrev root-good : Bool
+  root-good = cond (eqb (suc n) (header l .nodes)) (eqb (class l n) 3) true
+
+  passed : (a-good && (b-good && c-good) ≡ true) × (root-good ≡ true)
   unfolding classed
+  passed = both (a-good && (b-good && c-good)) root-good cls
+
+  pub root-class : suc n ≡ header l .nodes → class l n ≡ 3
+  root-class e = eqb-true (class l n) 3 (rw (eq-eqb (suc n) (header l .nodes) e) at (passed .1))
+
+  children : (a-good ≡ true) × (b-good ≡ true) × (c-good ≡ true)
   children =
-      let all = both (a-good && (b-good && c-good)) (cond (eqb (suc n) (header l .nodes)) (eqb (class l n) 3) true) cls .0 in
-      let later = both a-good (b-good && c-good) all in
+      let later = both a-good (b-good && c-good) (passed .0) in
       let last = both b-good c-good (later .1) in
       (later .0, last .0, last .1)
 

@@ -94,6 +94,13 @@ module _ (t : Statement ⊥) (v : Valid t) (room : size (termˢ t) ≤ 1024) whe
         named-once = λ k i. ap (λ p. names l p k) nodes-P ∙ once k (omega (arith, h .3));
       }
 
+  -- "written with F = 0, C = 0"
+  pub image-shape : (header l .options ≡ 0) × (header l .conditions ≡ 0) × (header l .nodes ≡ P)
+  unfolding plain-image
+  image-shape =
+      let h = header-says (termˢ t) fine room in
+      (h .1, h .2, h .3)
+
   pub reads-back : routine l ≡ embed t
   unfolding routine plain-image
   reads-back =

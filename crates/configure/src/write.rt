@@ -1,0 +1,122 @@
+// Writing a configured node: a choice is its chosen part, and any other node follows all of its subtree, "children in the order a, b, c".
+ghost use mathlib.Core.Path.{_≡_};
+ghost use mathlib.Core.Bool.{true, cond};
+ghost use Prim.Native.Nat.{_+_, _≤_, _<_};
+ghost use lib.Dec.{eqb};
+ghost use lib.ListN.{length};
+ghost use lib.Seq.{sets};
+ghost use Rattle.image.specs.Layout.{names-node};
+ghost use Rattle.image.specs.Term.{node-word, bytes-of};
+ghost use Rattle.configure.specs.Writing.{Writing, Wrote, hung, SlotWriting, SlotWrote, Fields, named, own-word, Ended};
+use image::fits::layout;
+use image::fits::names_node;
+use image::records::Node;
+use image::records::node_at;
+use sets::Set;
+
+// The eight bytes of w, most significant first; the least is stored first.
+pub fn put(out: &mut [u8], at: usize, w: u64)
+    requires { ⌜ at + 8 ≤ length (now out) ⌝ }
+    ensures { λ _. ⌜ now (out .exit) ≡ sets (now (out .entry)) at (bytes-of 8 w) ⌝ }
+{
+    let mut rest = w;
+    let mut i: usize = 8;
+    while 0 < i {
+        i -= 1;
+        out[at + i] = (rest % 256) as u8;
+        rest /= 256;
+    }
+}
+
+// A child was just written, so its name is the number before the next; a field that names no node is zero.
+fn name(slot: u32, next: usize) -> usize
+    requires { ⌜ (names-node slot ≡ true → 0 < next) ⌝ }
+    ensures { λ r. ⌜ r ≡ named slot next ⌝ }
+{
+    if names_node(slot) { next - 1 } else { 0 }
+}
+
+// Only a number has a value.
+fn value_of(node: Node) -> u32
+    ensures { λ r. ⌜ r ≡ cond (eqb (node .kind) 0) (node .value) 0 ⌝ }
+{
+    if node.kind == 0 { node.value } else { 0 }
+}
+
+// No kind above 23 is known, so a value of 32 bits never carries out of the word.
+fn node_word(kind: u32, variable: usize, value: u32, a: usize, b: usize, c: usize) -> u64
+    requires { ⌜ Fields kind variable a b c ⌝ }
+    ensures { λ r. ⌜ r ≡ node-word kind variable value a b c ⌝ }
+{
+    (kind as u64) * 0x400_0000_0000_0000
+        + (variable as u64) * 0x10_0000_0000_0000
+        + (a as u64) * 0x100_0000_0000
+        + (b as u64) * 0x1000_0000
+        + (c as u64) * 0x1_0000
+        + (value as u64)
+}
+
+// The node itself, once its children are written: the next nodes after them are after_a, after_b and after_c.
+fn own_word(node: Node, after_a: usize, after_b: usize, after_c: usize) -> u64
+    requires { ⌜ Ended node «after_a» «after_b» «after_c» ⌝ }
+    ensures { λ r. ⌜ r ≡ own-word node «after_a» «after_b» «after_c» ⌝ }
+{
+    let digits = layout(node.kind);
+    let a = name(digits / 64 % 8, after_a);
+    let b = name(digits / 8 % 8, after_b);
+    let c = name(digits % 8, after_c);
+    node_word(node.kind, node.variable, value_of(node), a, b, c)
+}
+
+// The child that a field names, or nothing. The answer is the next node's number, as that of `write`.
+fn write_slot(
+    image: &[u8],
+    conditions: usize,
+    sets: &[u64],
+    s: u64,
+    slot: u32,
+    value: usize,
+    at: usize,
+    out: &mut [u8],
+) -> usize
+    requires { ⌜ SlotWriting (now image) conditions (now sets) s slot value at (length (now out)) ⌝ }
+    ensures { λ r. ⌜ SlotWrote (hung (now (image .entry)) s slot value) at (now (out .entry)) (now (out .exit)) r ⌝ }
+{
+    if names_node(slot) {
+        return write(image, conditions, sets, s, value, at, out);
+    }
+    at
+}
+
+// Node n configured for setting s, as nodes `at` and on. A choice, whose field a is a condition, becomes its chosen part.
+pub fn write(
+    image: &[u8],
+    conditions: usize,
+    sets: &[u64],
+    s: u64,
+    n: usize,
+    at: usize,
+    out: &mut [u8],
+) -> usize
+    requires { ⌜ Writing (now image) conditions (now sets) s n at (length (now out)) ⌝ }
+    ensures { λ r. ⌜ Wrote (now (image .entry)) s n at (now (out .entry)) (now (out .exit)) r ⌝ }
+{
+    let node = node_at(image, conditions, n);
+    let a = node.a;
+    let b = node.b;
+    let c = node.c;
+    let digits = layout(node.kind);
+    if digits / 64 % 8 == 4 {
+        let condition = Set { bits: sets[a] };
+        if condition.has(s) {
+            return write(image, conditions, sets, s, b, at, out);
+        }
+        return write(image, conditions, sets, s, c, at, out);
+    }
+    let after_a = write_slot(image, conditions, sets, s, digits / 64 % 8, a, at, out);
+    let after_b = write_slot(image, conditions, sets, s, digits / 8 % 8, b, after_a, out);
+    let after_c = write_slot(image, conditions, sets, s, digits % 8, c, after_b, out);
+    let own = own_word(node, after_a, after_b, after_c);
+    put(out, 8 + 8 * after_c, own);
+    after_c + 1
+}
