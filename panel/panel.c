@@ -1,7 +1,7 @@
 /* Panel software calls the sets of settings from C. On x86-64, from the repository's folder:
      rt staticlib sets
      gcc -Wall -Wextra -o target/panel panel/panel.c target/staticlib/libsets.a && target/panel
-   (panel/run does this, and on Arm cross-compiles and emulates.) It prints `panel: ok` and ends with status 0, or prints each check
+   (.ci/c-run sets panel/panel.c does this, and on Arm cross-compiles and emulates.) It prints `panel: ok` and ends with status 0, or prints each check
    that failed and ends with status 1. */
 #include <stdbool.h>
 #include <stdint.h>

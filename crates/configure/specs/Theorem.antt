@@ -3,3 +3,4 @@ pub mod Terms
 pub mod Linked
 pub mod Small
 pub mod Result
+pub mod Vectors

@@ -1,0 +1,43 @@
+-- `checked` meets its contract: the check's answer, in numbers.
+use mathlib.Core.Path.{_≡_, sym, _∙_, ap}
+use borrow.Author.Needs.{needs}
+use Rattle.image.specs.Check.{answer-of}
+use Rattle.calls.specs.Reply.{reply, shape-reply}
+use Rattle.calls.proofs.checked.Statement.{statement}
+use Rattle.calls.proofs.checked.Tie as tie
+
+check-requires : tie.Need-check-requires
+check-requires c κs = search needs
+
+enum-known-r : tie.Need-enum-known-r
+enum-known-r c = search needs
+
+refused-requires : tie.Need-refused-requires
+refused-requires c κs = search needs
+
+enum-known-shape : tie.Need-enum-known-shape
+enum-known-shape c = search needs
+
+cast-t6 : tie.Need-cast-t6
+cast-t6 c = search needs
+
+returns : tie.Need-returns
+returns c =
+    c .refused .ensures
+    ∙ ap (λ x. reply shape-reply (answer-of x)) (sym (c .before .before .r .given .1)) ∙ ap (reply shape-reply) (c .before .before .before .before .check .ensures)
+
+returns-2 : tie.Need-returns-2
+returns-2 c =
+    ap (λ x. reply shape-reply (answer-of x)) (sym (c .before .before .shape .given .1)) ∙ ap (reply shape-reply) (c .before .before .before .before .check .ensures)
+
+pub checked-spec : {M : Type 1} → statement M
+checked-spec =
+    tie.close
+    (tie.spec
+    check-requires
+    enum-known-r
+    refused-requires
+    enum-known-shape
+    cast-t6
+    returns
+    returns-2)

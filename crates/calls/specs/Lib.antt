@@ -1,0 +1,2 @@
+-- What the calls from C reply.
+pub mod Reply

@@ -1,0 +1,35 @@
+-- An answer as plain numbers: a refusal's number and place, or number 0 and the call's values.
+use Prim.Native.Nat.{ℕ}
+use mathlib.Core.Bool.{Bool, cond}
+use mathlib.Core.List.{List, [], _∷_}
+use lib.Dec.{eqb}
+use lib.ListN.{length}
+use Rattle.image.specs.declared.accept.Shape.{Shape}
+use Rattle.image.specs.Rows.{Answer, refused, answer}
+use Rattle.calls.specs.declared.Reply.{Reply}
+
+abbrev pub values : ℕ → ℕ → ℕ → Reply
+values x y z = record { number = 0; place = 0; first = x; second = y; third = z }
+
+abbrev pub reply : {A : Type 0} → (A → Reply) → Answer A → Reply
+reply of (refused n p) = record { number = n; place = p; first = 0; second = 0; third = 0 }
+reply of (answer x) = of x
+
+abbrev pub no-values : ℕ → Reply
+no-values n = values 0 0 0
+
+-- F, C and P
+abbrev pub shape-reply : Shape → Reply
+shape-reply h = values (h .options) (h .conditions) (h .nodes)
+
+-- whether setting s is a member
+abbrev pub member-reply : ℕ → (ℕ → Bool) → Reply
+member-reply s S = values (cond (S s) 1 0) 0 0
+
+-- the length written
+abbrev pub length-reply : ℕ → Reply
+length-reply n = values n 0 0
+
+-- a reply takes all of the space that a caller lends for it, or none
+unfoldable pub filled : Reply → List ℕ → List ℕ
+filled r old = cond (eqb (length old) 5) (r .number ∷ r .place ∷ r .first ∷ r .second ∷ r .third ∷ []) old

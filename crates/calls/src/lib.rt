@@ -1,0 +1,126 @@
+// The bench's calls for programs in C: the same answers, as plain numbers.
+ghost use mathlib.Core.Path.{_≡_};
+ghost use lib.ListN.{length};
+ghost use Rattle.image.specs.Refusals.{number-of, place-of};
+ghost use Rattle.image.specs.Rows.{refused, judge, check-rows, written};
+ghost use Rattle.image.specs.Check.{shape-of};
+ghost use Rattle.image.specs.Sets.{in-condition, condition-rows};
+ghost use Rattle.configure.specs.Configured.{configured, configure-rows, over};
+ghost use Rattle.calls.specs.Reply.{reply, no-values, shape-reply, member-reply, length-reply, filled};
+use configure::Configured;
+use configure::configure;
+use image::accept::Checked;
+use image::accept::check;
+use image::conditions::ConditionSet;
+use image::conditions::condition_set;
+use image::refusals::Refusal;
+use image::refusals::number;
+use image::refusals::place;
+
+// Carried out: number 0 and the call's values. Refused: number and place.
+pub struct Reply {
+    pub number: usize,
+    pub place: usize,
+    pub first: usize,
+    pub second: usize,
+    pub third: usize,
+}
+
+fn refused(r: Refusal) -> Reply
+    ensures { λ y. ⌜ y ≡ reply no-values (refused (number-of r) (place-of r)) ⌝ }
+{
+    Reply {
+        number: number(r) as usize,
+        place: place(r),
+        first: 0,
+        second: 0,
+        third: 0,
+    }
+}
+
+// F, C and P.
+fn checked(image: &[u8]) -> Reply
+    ensures { λ y. ⌜ y ≡ reply shape-reply (judge (check-rows (now (image .entry))) (shape-of (now (image .entry)))) ⌝ }
+{
+    match check(image) {
+        Checked::Refused(r) => refused(r),
+        Checked::Good(shape) => Reply {
+            number: 0,
+            place: 0,
+            first: shape.options as usize,
+            second: shape.conditions,
+            third: shape.nodes,
+        },
+    }
+}
+
+// 1 where setting s is in the condition's set, else 0.
+fn member(image: &[u8], condition: usize, s: u64) -> Reply
+    ensures { λ y. ⌜ y ≡ reply (member-reply s) (judge (condition-rows (now (image .entry)) condition) (in-condition (now (image .entry)) condition)) ⌝ }
+{
+    match condition_set(image, condition) {
+        ConditionSet::Refused(r) => refused(r),
+        ConditionSet::Of(set) => Reply {
+            number: 0,
+            place: 0,
+            first: set.has(s) as usize,
+            second: 0,
+            third: 0,
+        },
+    }
+}
+
+// The length written.
+fn written(image: &[u8], setting: u64, out: &mut [u8]) -> Reply
+    ensures { λ y. ⌜ y ≡ reply length-reply (judge (configure-rows (now (image .entry)) setting (length (now (out .entry)))) (length (configured (now (image .entry)) setting))) ⌝ }
+    ensures { λ _. ⌜ now (out .exit) ≡ written (configure-rows (now (image .entry)) setting (length (now (out .entry)))) (over (configured (now (image .entry)) setting) (now (out .entry))) (now (out .entry)) ⌝ }
+{
+    match configure(image, setting, out) {
+        Configured::Refused(r) => refused(r),
+        Configured::Length(n) => Reply {
+            number: 0,
+            place: 0,
+            first: n,
+            second: 0,
+            third: 0,
+        },
+    }
+}
+
+// The reply's five numbers, where there is space for just these.
+fn fill(r: Reply, answer: &mut [usize])
+    ensures { λ _. ⌜ now (answer .exit) ≡ filled r (now (answer .entry)) ⌝ }
+{
+    if answer.len() == 5 {
+        answer[0] = r.number;
+        answer[1] = r.place;
+        answer[2] = r.first;
+        answer[3] = r.second;
+        answer[4] = r.third;
+    }
+}
+
+#[no_mangle]
+pub extern "C" fn bench_check(image: &[u8], answer: &mut [usize])
+    ensures { λ _. ⌜ now (answer .exit) ≡ filled (reply shape-reply (judge (check-rows (now (image .entry))) (shape-of (now (image .entry))))) (now (answer .entry)) ⌝ }
+{
+    let r = checked(image);
+    fill(r, answer);
+}
+
+#[no_mangle]
+pub extern "C" fn bench_condition_has(image: &[u8], condition: usize, s: u64, answer: &mut [usize])
+    ensures { λ _. ⌜ now (answer .exit) ≡ filled (reply (member-reply s) (judge (condition-rows (now (image .entry)) condition) (in-condition (now (image .entry)) condition))) (now (answer .entry)) ⌝ }
+{
+    let r = member(image, condition, s);
+    fill(r, answer);
+}
+
+#[no_mangle]
+pub extern "C" fn bench_configure(image: &[u8], setting: u64, out: &mut [u8], answer: &mut [usize])
+    ensures { λ _. ⌜ now (answer .exit) ≡ filled (reply length-reply (judge (configure-rows (now (image .entry)) setting (length (now (out .entry)))) (length (configured (now (image .entry)) setting)))) (now (answer .entry)) ⌝ }
+    ensures { λ _. ⌜ now (out .exit) ≡ written (configure-rows (now (image .entry)) setting (length (now (out .entry)))) (over (configured (now (image .entry)) setting) (now (out .entry))) (now (out .entry)) ⌝ }
+{
+    let r = written(image, setting, out);
+    fill(r, answer);
+}
