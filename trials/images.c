@@ -128,7 +128,7 @@ static void limits(void) {
     comes_back("1,000 deep", &i, 0, 0);
     i = deep_tree(1021);
     comes_back("P = 1,024", &i, 0, 0);
-    i = largest();
+    i = tower(256, 1024);
     bench_check(i.m, i.length, r, 5);
     expect("P = 1,024, C = 256", r[0] == 0 && r[2] == 6 && r[3] == 256 && r[4] == 1024, r[0], r[1]);
     for (uint64_t s = 0; s <= 64; s++) {
@@ -160,9 +160,9 @@ static void changed(const char *what, Image i) {
     for (size_t length = 0; length < i.length + 9; length++) try_image(what, i.m, length);
 }
 
-static void times(void) {
+static void times(unsigned C, unsigned P) {
     static uint8_t out[LONGEST];
-    Image i = largest();
+    Image i = tower(C, P);
     size_t r[5], rounds = 2000;
     clock_t t0 = clock();
     for (size_t k = 0; k < rounds; k++) bench_check(i.m, i.length, r, 5);
@@ -170,7 +170,7 @@ static void times(void) {
     for (size_t k = 0; k < rounds; k++) bench_configure(i.m, i.length, 32, out, sizeof out, r, 5);
     clock_t t2 = clock();
     double unit = 1e6 / CLOCKS_PER_SEC / rounds;
-    printf("images: P = 1024, C = 256: check %.0f us, configure %.0f us\n", (t1 - t0) * unit, (t2 - t1) * unit);
+    printf("images: C = %u, P = %u: check %.0f us, configure %.0f us to %zu bytes\n", C, P, (t1 - t0) * unit, (t2 - t1) * unit, r[2]);
 }
 
 int main(int argc, char **argv) {
@@ -179,7 +179,7 @@ int main(int argc, char **argv) {
     limits();
     changed("H", routine_H());
     changed("all kinds", all_kinds());
-    if (argc > 1) times();
+    for (unsigned C = 32; argc > 1 && C <= 256; C *= 2) times(C, 4 * C);
     if (failed) printf("images: %lu of %lu answers are wrong\n", failed, tried);
     else printf("images: ok, %lu answers\n", tried);
     return failed != 0;

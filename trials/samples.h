@@ -49,21 +49,21 @@ static Image deep_tree(unsigned deep) {
     return i;
 }
 
-/* as large as an image can be: 256 conditions, each the one before met with itself, and 510 statements on top of each other, every
-   fourth of them a choice */
-static Image largest(void) {
-    Image i = header(6, 256, 1024);
+/* C conditions, each the one before met with itself, and P nodes (an even number): statements on top of each other, every fourth of
+   them a choice. With 256 and 1,024 it is as large as an image can be */
+static Image tower(unsigned C, unsigned P) {
+    Image i = header(6, C, P);
     set_condition(&i, 0, 2, 5, 0, 0);
-    for (unsigned k = 1; k < 256; k++) set_condition(&i, k, 4, 0, k - 1, k - 1);
+    for (unsigned k = 1; k < C; k++) set_condition(&i, k, 4, 0, k - 1, k - 1);
     set_node(&i, 0, 9, 0, 0, 0, 0);
     set_node(&i, 1, 16, 0, 0, 0, 0);
-    for (unsigned n = 2; n < 1022; n += 2) {
+    for (unsigned n = 2; n < P - 2; n += 2) {
         set_node(&i, n, 16, 0, 0, 0, 0);
-        if (n % 8 == 0) set_node(&i, n + 1, 23, 0, n / 4, n - 1, n);
+        if (n % 8 == 0) set_node(&i, n + 1, 23, 0, n / 4 % C, n - 1, n);
         else set_node(&i, n + 1, 18, 0, n - 1, n, 0);
     }
-    set_node(&i, 1022, 10, 0, 0, 0, 0);
-    set_node(&i, 1023, 20, 0, 1022, 1021, 0);
+    set_node(&i, P - 2, 10, 0, 0, 0, 0);
+    set_node(&i, P - 1, 20, 0, P - 2, P - 3, 0);
     return i;
 }
 
