@@ -1,0 +1,27 @@
+-- `assign` meets its contract: the value's number goes into the variable.
+use mathlib.Core.Path.{ap}
+use lib.ListN.{set}
+use borrow.Author.Needs.{needs}
+use Rattle.plain.proofs.Evaluation.{through}
+use Rattle.plain.proofs.run.assign.Statement.{statement}
+use Rattle.plain.proofs.run.assign.Tie as tie
+
+arithmetic-requires : tie.Need-arithmetic-requires
+arithmetic-requires c κs = search needs
+
+mul-x : tie.Need-mul-x
+mul-x c = search needs
+
+slice-set-from-x : tie.Need-slice-set-from-x
+slice-set-from-x c = search needs
+
+same-length : tie.Need-same-length
+same-length c = search needs
+
+returns : tie.Need-returns
+returns c =
+    let a = c .before .before .before .before .args in
+    ap (set (a .numbers .now) (a .v)) (through (c .arithmetic .ok) (c .arithmetic .ensures))
+
+pub assign-spec : {M : Type 1} → statement M
+assign-spec = tie.close (tie.spec arithmetic-requires mul-x slice-set-from-x same-length returns)

@@ -1,0 +1,23 @@
+// Which node of an image is its lowest choice.
+ghost use mathlib.Core.Path.{_≡_};
+ghost use Rattle.image.specs.Layout.{is-choice};
+ghost use Rattle.image.specs.Records.{node};
+ghost use Rattle.image.specs.Rows.{lowest};
+ghost use Rattle.image.specs.Whole.{Whole};
+use image::fits::layout;
+use image::records::node_at;
+
+// The lowest choice, and P where there is none.
+pub fn lowest_choice(image: &[u8], conditions: usize, nodes: usize) -> usize
+    requires { ⌜ Whole (now image) conditions nodes ⌝ }
+    ensures { λ r. ⌜ r ≡ lowest nodes (λ n. is-choice (node (now (image .entry)) n .kind)) ⌝ }
+{
+    let mut n: usize = 0;
+    while n < nodes {
+        if layout(node_at(image, conditions, n).kind) / 64 % 8 == 4 {
+            return n;
+        }
+        n += 1;
+    }
+    n
+}

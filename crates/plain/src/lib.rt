@@ -1,0 +1,71 @@
+// The run of one setting: the value of an expression, and the plain run.
+ghost use mathlib.Core.Path.{_≡_};
+ghost use lib.ListN.{length};
+ghost use Rattle.image.specs.Check.{shape-of};
+ghost use Rattle.image.specs.Theorem.Accepted.{Accepted};
+ghost use Rattle.plain.specs.PlainRun.{lent-rows, plain-rows, Runs};
+
+mod choices; // choices.rt: the lowest choice of an image
+pub mod evaluate; // evaluate.rt: the value of an expression
+pub mod progress; // progress.rt: how far a setting is
+pub mod run; // run.rt: a statement
+
+use choices::lowest_choice;
+use image::accept::Checked;
+use image::accept::Shape;
+use image::accept::check;
+use image::conditions::condition_sets;
+use image::refusals::Refusal;
+use progress::Progress;
+use run::run;
+
+// How the run ended, or the refusal.
+pub enum PlainRun {
+    Ended(Progress),
+    Refused(Refusal),
+}
+
+// Tests 10 and 12, and the run: in an image with no choice every setting is the same.
+fn run_accepted(image: &[u8], shape: Shape, budget: u32, numbers: &mut [i32]) -> PlainRun
+    requires { ⌜ Accepted (now image) × (shape ≡ shape-of (now image)) ⌝ }
+    ensures { λ r. ⌜ Runs (lent-rows budget (length (now (numbers .entry)))) (now (image .entry)) budget (now (numbers .entry)) (now (numbers .exit)) r ⌝ }
+{
+    if 100_000 < budget {
+        return PlainRun::Refused(Refusal::BudgetOver);
+    }
+    if numbers.len() != 16 {
+        return PlainRun::Refused(Refusal::LentWrong);
+    }
+    let sets = condition_sets(image, shape);
+    let fresh = Progress {
+        outcome: 1,
+        code: 0,
+        steps: 0,
+    };
+    PlainRun::Ended(run(
+        image,
+        shape.conditions,
+        &sets,
+        0,
+        shape.nodes - 1,
+        budget,
+        fresh,
+        numbers,
+    ))
+}
+
+// "The plain run takes an image, a budget and 16 numbers and answers outcome, code, steps": refusals 1 to 8, 13, 10, 12.
+pub fn plain_run(image: &[u8], budget: u32, numbers: &mut [i32]) -> PlainRun
+    ensures { λ r. ⌜ Runs (plain-rows (now (image .entry)) budget (length (now (numbers .entry)))) (now (image .entry)) budget (now (numbers .entry)) (now (numbers .exit)) r ⌝ }
+{
+    match check(image) {
+        Checked::Refused(r) => PlainRun::Refused(r),
+        Checked::Good(shape) => {
+            let choice = lowest_choice(image, shape.conditions, shape.nodes);
+            if choice < shape.nodes {
+                return PlainRun::Refused(Refusal::ChoiceHeld(choice));
+            }
+            run_accepted(image, shape, budget, numbers)
+        }
+    }
+}
