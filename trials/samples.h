@@ -1,5 +1,5 @@
 /* Images to try: how one is made, routine H by hand, images at document 01's limits, and one with a node of every kind. */
-#include "oracle.h"
+#include "oracle_run.h"
 
 typedef struct { uint8_t m[LONGEST + 64]; size_t length; } Image;
 

@@ -5,6 +5,8 @@ use mathlib.Core.List.{List, [], _∷_}
 use lib.Dec.{eqb}
 use lib.ListN.{length}
 use Rattle.image.specs.declared.accept.Shape.{Shape}
+use Rattle.imp.specs.Numbers.{low32}
+use Rattle.plain.specs.declared.progress.Progress.{Progress}
 use Rattle.image.specs.Rows.{Answer, refused, answer}
 use Rattle.calls.specs.declared.Reply.{Reply}
 
@@ -29,6 +31,10 @@ member-reply s S = values (cond (S s) 1 0) 0 0
 -- the length written
 abbrev pub length-reply : ℕ → Reply
 length-reply n = values n 0 0
+
+-- outcome, code as 32 bits, steps
+abbrev pub progress-reply : Progress → Reply
+progress-reply p = values (p .outcome) (low32 (p .code)) (p .steps)
 
 -- a reply takes all of the space that a caller lends for it, or none
 unfoldable pub filled : Reply → List ℕ → List ℕ

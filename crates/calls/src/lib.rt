@@ -6,7 +6,8 @@ ghost use Rattle.image.specs.Rows.{refused, judge, check-rows, written};
 ghost use Rattle.image.specs.Check.{shape-of};
 ghost use Rattle.image.specs.Sets.{in-condition, condition-rows};
 ghost use Rattle.configure.specs.Configured.{configured, configure-rows, over};
-ghost use Rattle.calls.specs.Reply.{reply, no-values, shape-reply, member-reply, length-reply, filled};
+ghost use Rattle.calls.specs.Reply.{reply, no-values, shape-reply, member-reply, length-reply, progress-reply, filled};
+ghost use Rattle.plain.specs.PlainRun.{meant, progress-of, plain-rows};
 use configure::Configured;
 use configure::configure;
 use image::accept::Checked;
@@ -16,6 +17,10 @@ use image::conditions::condition_set;
 use image::refusals::Refusal;
 use image::refusals::number;
 use image::refusals::place;
+use imp::bits;
+use plain::PlainRun;
+use plain::plain_run;
+use plain::progress::Progress;
 
 // Carried out: number 0 and the call's values. Refused: number and place.
 pub struct Reply {
@@ -87,6 +92,29 @@ fn written(image: &[u8], setting: u64, out: &mut [u8]) -> Reply
     }
 }
 
+// Outcome, code as 32 bits, and steps.
+fn progress(p: Progress) -> Reply
+    ensures { λ y. ⌜ y ≡ progress-reply p ⌝ }
+{
+    Reply {
+        number: 0,
+        place: 0,
+        first: p.outcome as usize,
+        second: bits(p.code) as usize,
+        third: p.steps as usize,
+    }
+}
+
+fn ended(image: &[u8], budget: u32, numbers: &mut [i32]) -> Reply
+    ensures { λ y. ⌜ y ≡ reply progress-reply (judge (plain-rows (now (image .entry)) budget (length (now (numbers .entry)))) (progress-of (meant (now (image .entry)) budget (now (numbers .entry))))) ⌝ }
+    ensures { λ _. ⌜ now (numbers .exit) ≡ written (plain-rows (now (image .entry)) budget (length (now (numbers .entry)))) (meant (now (image .entry)) budget (now (numbers .entry)) .numbers) (now (numbers .entry)) ⌝ }
+{
+    match plain_run(image, budget, numbers) {
+        PlainRun::Refused(r) => refused(r),
+        PlainRun::Ended(p) => progress(p),
+    }
+}
+
 // The reply's five numbers, where there is space for just these.
 fn fill(r: Reply, answer: &mut [usize])
     ensures { λ _. ⌜ now (answer .exit) ≡ filled r (now (answer .entry)) ⌝ }
@@ -122,5 +150,19 @@ pub extern "C" fn bench_configure(image: &[u8], setting: u64, out: &mut [u8], an
     ensures { λ _. ⌜ now (out .exit) ≡ written (configure-rows (now (image .entry)) setting (length (now (out .entry)))) (over (configured (now (image .entry)) setting) (now (out .entry))) (now (out .entry)) ⌝ }
 {
     let r = written(image, setting, out);
+    fill(r, answer);
+}
+
+#[no_mangle]
+pub extern "C" fn bench_plain_run(
+    image: &[u8],
+    budget: u32,
+    numbers: &mut [i32],
+    answer: &mut [usize],
+)
+    ensures { λ _. ⌜ now (answer .exit) ≡ filled (reply progress-reply (judge (plain-rows (now (image .entry)) budget (length (now (numbers .entry)))) (progress-of (meant (now (image .entry)) budget (now (numbers .entry)))))) (now (answer .entry)) ⌝ }
+    ensures { λ _. ⌜ now (numbers .exit) ≡ written (plain-rows (now (image .entry)) budget (length (now (numbers .entry)))) (meant (now (image .entry)) budget (now (numbers .entry)) .numbers) (now (numbers .entry)) ⌝ }
+{
+    let r = ended(image, budget, numbers);
     fill(r, answer);
 }

@@ -5,7 +5,7 @@ ghost use lib.Signed.{ltZ};
 ghost use Rattle.imp.specs.Numbers.{low32, signed32, wrap};
 
 // The 32 bits of `a`, in two's complement.
-fn bits(a: i32) -> u32
+pub fn bits(a: i32) -> u32
     ensures { λ r. ⌜ r ≡ low32 a ⌝ }
 {
     if a < 0 {

@@ -132,6 +132,9 @@ module _ {l : Bytes} {C : ℕ} {S : List ℕ} {s n κ : ℕ} {ns : List ℤ} {ν
   pub call-chosen : {x slot : ℕ} → x ≡ cond (bit (getD S (ν .a) 0) s) (ν .b) (ν .c) → Call (ν .b) slot → Call (ν .c) slot → Call x slot
   call-chosen = call-side (bit (getD S (ν .a) 0) s)
 
+  pub call-decided : {x slot : ℕ} → x ≡ cond (truthIn s (read l (ν .a) .boolean) ns) (ν .b) (ν .c) → Call (ν .b) slot → Call (ν .c) slot → Call x slot
+  call-decided = call-side (truthIn s (read l (ν .a) .boolean) ns)
+
   -- ---- what is looked up is there
 
   condition-there : (k : ℕ) → ν .kind ≡ k → is-choice k ≡ true → node l n .a < header l .conditions

@@ -5,10 +5,11 @@ use Prim.Native.Nat.{ℕ, suc, _+_, _-_, _≤_, _<_}
 use native.Mathlib.Omega.{arith}
 use lib.Dec.{eqb}
 use lib.ListN.{length}
+use borrow.Author.Tests.{eq-eqb}
 use Rattle.imp.specs.Configure.{configure, configureᵇ}
 use Rattle.imp.specs.Routine.{while}
 use Rattle.imp.specs.State.{Numbers, State, branch}
-use Rattle.imp.specs.Plain.{truth, begun, run}
+use Rattle.imp.specs.Plain.{begun, run}
 use Rattle.imp.specs.Shared.{truthIn}
 use Rattle.imp.specs.Theorem.Agreement.{truth-agrees}
 use Rattle.imp.specs.Theorem.Begin.{begun-yes, begun-no}
@@ -19,7 +20,7 @@ use Rattle.image.specs.Tree.{read}
 use Rattle.image.specs.Theorem.Lower.{both}
 use Rattle.plain.specs.declared.progress.Progress.{Progress}
 use Rattle.plain.specs.Progress.{state-of, Proper}
-use Rattle.plain.specs.Running.{Began, Ran}
+use Rattle.plain.specs.Running.{Began, Ran, turning}
 use Rattle.plain.proofs.Beginning.{ready-is, charged}
 use Rattle.plain.proofs.Statements.{does}
 
@@ -30,10 +31,6 @@ loops b s l test body = run b (while (configureᵇ s (read l test .boolean)) (co
 -- what is left once it is known whether it goes on
 abbrev pub left : ℕ → ℕ → Bytes → ℕ → ℕ → Bool → State → State
 left b s l test body going = branch going (λ σ. loops b s l test body (does b s l body σ)) (λ σ. σ)
-
--- what a while does once it is begun
-abbrev tests : ℕ → ℕ → Bytes → ℕ → ℕ → State → State
-tests b s l test body σ = left b s l test body (truth (configureᵇ s (read l test .boolean)) (σ .numbers)) σ
 
 -- it goes on where the setting is live and the test holds
 abbrev pub goes-on : ℕ → Bytes → ℕ → Progress → Numbers → Bool
@@ -52,24 +49,26 @@ turns-left b going q = cond going (b + 1 - q .steps) 0
 
 module _ (b s : ℕ) (l : Bytes) (test body : ℕ) where
   -- begun and tested
-  pub begun-tested : {p q : Progress} → Began b p q → (ns : Numbers) → loops b s l test body (state-of p ns) ≡ left b s l test body (goes-on s l test q ns) (state-of q ns)
+  pub begun-tested : {p q : Progress} → Began b p q → (ns : Numbers)
+      → loops b s l test body (state-of p ns) ≡ left b s l test body (goes-on s l test q ns) (state-of q ns)
   unfolding state-of
   begun-tested {p} {q} h ns = while-again b _ _ (state-of p ns) ∙ go (eqb (q .outcome) 1) refl
     where
-      go : (u : Bool) → eqb (q .outcome) 1 ≡ u → begun b (tests b s l test body) (state-of p ns) ≡ left b s l test body (goes-on s l test q ns) (state-of q ns)
+      go : (u : Bool) → eqb (q .outcome) 1 ≡ u → begun b (turning b s l test body) (state-of p ns) ≡ left b s l test body (goes-on s l test q ns) (state-of q ns)
       go true e =
-          begun-yes b (tests b s l test body) (state-of p ns) (ready-is h ns ∙ e) ∙ ap (tests b s l test body) (sym (h .entered ns)) ∙ rw (e, truth-agrees s (read l test .boolean) ns) refl
-      go false e = begun-no b (tests b s l test body) (state-of p ns) (ready-is h ns ∙ e) ∙ sym (h .entered ns) ∙ rw e refl
+          begun-yes b (turning b s l test body) (state-of p ns) (ready-is h ns ∙ e)
+          ∙ ap (turning b s l test body) (sym (h .entered ns))
+          ∙ rw (e, truth-agrees s (read l test .boolean) ns) refl
+      go false e = begun-no b (turning b s l test body) (state-of p ns) (ready-is h ns ∙ e) ∙ sym (h .entered ns) ∙ rw e refl
 
   -- with one more step if it goes on
   charged-on : {p q : Progress} → Began b p q → (ns : Numbers) → goes-on s l test q ns ≡ true → (q .steps ≡ suc (p .steps)) × (q .steps ≤ b)
   charged-on {p} {q} h ns e = charged h ns (both (eqb (q .outcome) 1) (truthIn s (read l test .boolean) ns) e .0)
 
   -- the loop starts
-  pub turning : {p q : Progress} {going : Bool} {ns : Numbers} → Began b p q → going ≡ goes-on s l test q ns → length ns ≡ 16
+  pub starting : {q : Progress} {going : Bool} {ns : Numbers} → Proper (q .outcome) (q .code) → q .steps ≤ b → length ns ≡ 16
       → Turning b s l test body ns q going ns q going
-  turning {ns = ns} h e sixteen =
-      record { same = refl; proper = h .proper; sixteen = sixteen; within = λ on. charged-on h ns (sym e ∙ on) .1 }
+  starting proper within sixteen = record { same = refl; proper = proper; sixteen = sixteen; within = λ on. within }
 
   module _ {ns₀ ns ns′ : Numbers} {q₀ q r q′ : Progress} {going₀ going going′ : Bool} (on : going ≡ true) (i : Turning b s l test body ns₀ q₀ going₀ ns q going)
       (ran : Ran (does b s l body (state-of q ns)) r ns′) (h : Began b r q′) (e : going′ ≡ goes-on s l test q′ ns′) where
@@ -98,12 +97,20 @@ module _ (b s : ℕ) (l : Bytes) (test body : ℕ) where
         go true more = rw more (omega (arith, charged-on h ns′ (sym e ∙ more), no-less, i .within on))
         go false more = rw more (omega (arith, i .within on))
 
+  -- live, it goes on if the test holds
+  tested-live : (q : Progress) (ns : Numbers) → q .outcome ≡ 1
+      → left b s l test body (goes-on s l test q ns) (state-of q ns) ≡ turning b s l test body (state-of q ns)
+  unfolding state-of
+  tested-live q ns live = rw (eq-eqb (q .outcome) 1 live, truth-agrees s (read l test .boolean) ns) refl
+
   -- the loop ends
-  pub turned-out : {ns₀ ns : Numbers} {p q₀ q : Progress} {going₀ going : Bool} → Began b p q₀ → going₀ ≡ goes-on s l test q₀ ns₀
-      → Turning b s l test body ns₀ q₀ going₀ ns q going → going ≡ false → Ran (loops b s l test body (state-of p ns₀)) q ns
-  turned-out {ns₀} {ns} {p} {q₀} {q} h e i off =
+  pub ending : {ns₀ ns : Numbers} {q₀ q : Progress} {going₀ going : Bool} → q₀ .outcome ≡ 1 → going₀ ≡ goes-on s l test q₀ ns₀
+      → Turning b s l test body ns₀ q₀ going₀ ns q going → going ≡ false → Ran (turning b s l test body (state-of q₀ ns₀)) q ns
+  ending {ns₀} {ns} {q₀} {q} live e i off =
       record {
-        reaches = ap (λ g. left b s l test body g (state-of q ns)) (sym off) ∙ i .same ∙ ap (λ g. left b s l test body g (state-of q₀ ns₀)) e ∙ sym (begun-tested h ns₀);
+        reaches =
+            ap (λ g. left b s l test body g (state-of q ns)) (sym off) ∙ i .same
+            ∙ ap (λ g. left b s l test body g (state-of q₀ ns₀)) e ∙ tested-live q₀ ns₀ live;
         proper = i .proper;
         sixteen = i .sixteen;
       }

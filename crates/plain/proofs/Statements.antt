@@ -11,11 +11,12 @@ use borrow.Author.Tests.{ne-eqb}
 use Rattle.sets.specs.Member.{bit}
 use Rattle.imp.specs.Condition.{Condition, holds}
 use Rattle.imp.specs.Configure.{configure, configureᵇ}
-use Rattle.imp.specs.Routine.{Statement, while}
+use Rattle.imp.specs.Routine.{Statement}
 use Rattle.imp.specs.State.{Numbers, State, branch, in-fault, code, store, thrown, taken}
 use Rattle.imp.specs.Plain.{truth, handled, run}
 use Rattle.imp.specs.Shared.{valueIn, truthIn}
 use Rattle.imp.specs.Theorem.Agreement.{value-agrees, truth-agrees}
+use Rattle.imp.specs.Theorem.WhilePlain.{while-again}
 use Rattle.image.specs.declared.records.Node.{Node}
 use Rattle.image.specs.Bytes.{Bytes}
 use Rattle.image.specs.Records.{header, node}
@@ -26,7 +27,7 @@ use Rattle.image.specs.Theorem.Reading.{skip-at, assign-at, sequence-at, if-at,
 use Rattle.plain.specs.declared.progress.Progress.{Progress}
 use Rattle.plain.specs.Evaluating.{Evaluating}
 use Rattle.plain.specs.Progress.{outcome-from, state-of, Proper}
-use Rattle.plain.specs.Running.{Running, Began, Ran}
+use Rattle.plain.specs.Running.{Running, Began, Ran, turning}
 use Rattle.plain.proofs.Beginning.{acts, fault-is}
 use Rattle.plain.proofs.Evaluation.{At, of-side, is-kind, in-a, in-b, in-c, chosen}
 
@@ -44,14 +45,22 @@ of-branch f true x y σ = refl
 of-branch f false x y σ = refl
 
 -- what follows a try's body: nothing unless that ended in fault
-pub passes-by : (v : ℕ) (f : State → State) (p : Progress) (ns : Numbers) → (p .outcome ≡ 2 → ⊥) → state-of p ns ≡ handled v f (state-of p ns)
+passes-by : (v : ℕ) (f : State → State) (p : Progress) (ns : Numbers) → (p .outcome ≡ 2 → ⊥) → state-of p ns ≡ handled v f (state-of p ns)
 unfolding handled state-of
 passes-by v f p ns dead = rw (fault-is (p .outcome) (p .code) ∙ ne-eqb (p .outcome) 2 dead) refl
 
-pub caught : (v : ℕ) (f : State → State) (p : Progress) (ns : Numbers) → p .outcome ≡ 2
+caught : (v : ℕ) (f : State → State) (p : Progress) (ns : Numbers) → p .outcome ≡ 2
     → f (state-of (record { outcome = 1; code = pos 0; steps = p .steps }) (set ns v (p .code))) ≡ handled v f (state-of p ns)
 unfolding handled state-of taken code in-fault outcome-from
 caught v f p ns e = rw e refl
+
+pub handled-none : {σ : State} {r : Progress} {ns : Numbers} (v : ℕ) (f : State → State) → Ran σ r ns → (r .outcome ≡ 2 → ⊥) → Ran (handled v f σ) r ns
+handled-none {r = r} {ns = ns} v f h other =
+    record { reaches = passes-by v f r ns other ∙ ap (handled v f) (h .reaches); proper = h .proper; sixteen = h .sixteen }
+
+pub handled-by : {σ : State} {r : Progress} {ns : Numbers} {x : ℤ} (v : ℕ) (f : State → State) → Ran σ r ns → r .outcome ≡ 2 → x ≡ r .code
+    → f (state-of (record { outcome = 1; code = pos 0; steps = r .steps }) (set ns v x)) ≡ handled v f σ
+handled-by {r = r} {ns = ns} v f h two e = rw e (caught v f r ns two) ∙ ap (handled v f) (h .reaches)
 
 -- the node is evaluated on other numbers
 pub on : {l : Bytes} {C : ℕ} {S : List ℕ} {s n κ : ℕ} {ns ns′ : List ℤ} → length ns′ ≡ 16 → Evaluating l C S s n κ ns → Evaluating l C S s n κ ns′
@@ -68,6 +77,11 @@ pub last-kind : {k : ℕ} → (15 < k) × (k < 24) → (k ≡ 16 → ⊥) → (k
     → k ≡ 22
 last-kind {k} range n16 n17 n18 n19 n20 n21 n23 =
     between k (range .1) n23 (past 21 k (past 20 k (past 19 k (past 18 k (past 17 k (past 16 k (range .0) n16) n17) n18) n19) n20) n21)
+
+-- a number is stored, in numbers
+pub stores : {x z : ℤ} (v : ℕ) (q : Progress) (ns : Numbers) → x ≡ z → state-of q (set ns v x) ≡ store v z (state-of q ns)
+unfolding state-of store
+stores v q ns e = rw e refl
 
 -- the run of a child
 pub child-run : {l : Bytes} {C : ℕ} {S : List ℕ} {s n x t : ℕ} {ns ns′ : List ℤ} {q : Progress} → 2 * n ≡ t → (x < n) × Evaluating l C S s x 3 ns
@@ -100,18 +114,13 @@ module _ {l : Bytes} {C : ℕ} {S : List ℕ} {s n : ℕ} {ns : List ℤ} {ν : 
       ∙ sym (of-side (λ t. run b t σ) (holds (condition l (node l n .a)) s) _ _)
       ∙ sym (read-as (choice-at l n (is-kind p e) (in-b p 23 e refl .is-lower) (in-c p 23 e refl .is-lower)) σ))
 
-  pub while-does : ν .kind ≡ 20 → (σ : State)
-      → run b (while (configureᵇ s (read l (ν .a) .boolean)) (configure s (read l (ν .b) .statement))) σ ≡ does b s l n σ
-  unfolding configure layout kinds names-node
-  while-does e σ = rw (p .is-node) (sym (read-as (while-at l n (is-kind p e) (in-a p 20 e refl .is-lower) (in-b p 20 e refl .is-lower)) σ))
-
   module _ {from q : Progress} (h : Began b from q) (o : q .outcome ≡ 1) where
     pub skip-does : ν .kind ≡ 16 → state-of q ns ≡ does b s l n (state-of from ns)
     unfolding configure run
     skip-does e = sym (read-as (skip-at l n (is-kind p e)) (state-of from ns) ∙ acts h ns o _)
 
-    pub assign-does : ν .kind ≡ 17 → state-of q (set ns (ν .variable) (valueIn s (read l (ν .a) .arithmetic) ns)) ≡ does b s l n (state-of from ns)
-    unfolding configure run store state-of layout kinds names-node
+    pub assign-does : ν .kind ≡ 17 → store (ν .variable) (valueIn s (read l (ν .a) .arithmetic) ns) (state-of q ns) ≡ does b s l n (state-of from ns)
+    unfolding configure run state-of layout kinds names-node
     assign-does e = rw (p .is-node, value-agrees s (read l (node l n .a) .arithmetic) ns)
         (sym (read-as (assign-at l n (is-kind p e) (in-a p 17 e refl .is-lower)) (state-of from ns) ∙ acts h ns o _))
 
@@ -120,12 +129,13 @@ module _ {l : Bytes} {C : ℕ} {S : List ℕ} {s n : ℕ} {ns : List ℤ} {ν : 
     sequence-does e = rw (p .is-node)
         (sym (read-as (sequence-at l n (is-kind p e) (in-a p 18 e refl .is-lower) (in-b p 18 e refl .is-lower)) (state-of from ns) ∙ acts h ns o _))
 
-    pub if-does : {x : ℕ} {u : Bool} → ν .kind ≡ 19 → x ≡ cond u (ν .b) (ν .c) → u ≡ truthIn s (read l (ν .a) .boolean) ns
+    pub if-does : {x : ℕ} → ν .kind ≡ 19 → x ≡ cond (truthIn s (read l (ν .a) .boolean) ns) (ν .b) (ν .c)
         → does b s l x (state-of q ns) ≡ does b s l n (state-of from ns)
     unfolding configure run state-of layout kinds names-node
-    if-does e side test = rw (side, test, p .is-node, truth-agrees s (read l (node l n .a) .boolean) ns)
+    if-does e side = rw (side, p .is-node, truth-agrees s (read l (node l n .a) .boolean) ns)
         (of-branch (does b s l) (truth (configureᵇ s (read l (node l n .a) .boolean)) ns) _ _ (state-of q ns)
-        ∙ sym (read-as (if-at l n (is-kind p e) (in-a p 19 e refl .is-lower) (in-b p 19 e refl .is-lower) (in-c p 19 e refl .is-lower)) (state-of from ns) ∙ acts h ns o _))
+        ∙ sym (read-as (if-at l n (is-kind p e) (in-a p 19 e refl .is-lower) (in-b p 19 e refl .is-lower) (in-c p 19 e refl .is-lower)) (state-of from ns)
+        ∙ acts h ns o _))
 
     pub throw-does : ν .kind ≡ 21 → thrown (valueIn s (read l (ν .a) .arithmetic) ns) (state-of q ns) ≡ does b s l n (state-of from ns)
     unfolding configure run state-of layout kinds names-node
@@ -136,3 +146,9 @@ module _ {l : Bytes} {C : ℕ} {S : List ℕ} {s n : ℕ} {ns : List ℤ} {ν : 
     unfolding configure run layout kinds names-node
     try-does e = rw (p .is-node)
         (sym (read-as (try-at l n (is-kind p e) (in-a p 22 e refl .is-lower) (in-b p 22 e refl .is-lower)) (state-of from ns) ∙ acts h ns o _))
+
+    pub while-does : ν .kind ≡ 20 → turning b s l (ν .a) (ν .b) (state-of q ns) ≡ does b s l n (state-of from ns)
+    unfolding configure layout kinds names-node
+    while-does e = rw (p .is-node)
+        (sym (read-as (while-at l n (is-kind p e) (in-a p 20 e refl .is-lower) (in-b p 20 e refl .is-lower)) (state-of from ns)
+        ∙ while-again b _ _ (state-of from ns) ∙ acts h ns o _))

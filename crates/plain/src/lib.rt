@@ -9,6 +9,7 @@ mod choices; // choices.rt: the lowest choice of an image
 pub mod evaluate; // evaluate.rt: the value of an expression
 pub mod progress; // progress.rt: how far a setting is
 pub mod run; // run.rt: a statement
+pub mod step; // step.rt: what a statement does by itself
 
 use choices::lowest_choice;
 use image::accept::Checked;

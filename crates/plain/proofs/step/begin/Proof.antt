@@ -2,8 +2,8 @@
 use native.Mathlib.Omega.{arith}
 use borrow.Author.Needs.{needs}
 use Rattle.plain.proofs.Beginning.{passes, steps-on, runs-out}
-use Rattle.plain.proofs.run.begin.Statement.{statement}
-use Rattle.plain.proofs.run.begin.Tie as tie
+use Rattle.plain.proofs.step.begin.Statement.{statement}
+use Rattle.plain.proofs.step.begin.Tie as tie
 
 returns : tie.Need-returns
 returns c = passes (c .before .before .args .budget) (c .before .before .args .p) (c .before .before .pre) (c .if1 .taken)

@@ -3,8 +3,8 @@ use mathlib.Core.Path.{_≡_}
 use native.Mathlib.Omega.{arith}
 use borrow.Author.Needs.{needs}
 use borrow.Author.Tests.{eq-eqb, ne-eqb}
-use Rattle.plain.proofs.run.tested.Statement.{statement}
-use Rattle.plain.proofs.run.tested.Tie as tie
+use Rattle.plain.proofs.step.tested.Statement.{statement}
+use Rattle.plain.proofs.step.tested.Tie as tie
 
 returns : tie.Need-returns
 returns c = rw (ne-eqb (c .before .before .before .before .args .p .outcome) 1 (c .if1 .taken))
