@@ -127,7 +127,7 @@ static void every_kind(void) {
             for (int32_t first = -20; first <= 20; first++) {
                 int32_t v[16], w[16];
                 size_t r[5];
-                for (int k = 0; k < 16; k++) v[k] = w[k] = first * (k - 7);
+                for (int k = 0; k < 16; k++) v[k] = w[k] = first * (k - 7) + 3 * k + 1;
                 Run run = {1, 0, 0, budget, w, i.m};
                 statement(&run, nodes(i.m) - 1);
                 bench_plain_run(i.m, i.length, budget, v, 16, r, 5);
