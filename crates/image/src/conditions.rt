@@ -1,12 +1,9 @@
 // The sets of an image's conditions, worked out once, bottom up: a condition may be named many times, and is looked up where it is.
 ghost use mathlib.Core.Path.{_≡_};
-ghost use mathlib.Core.Bool.{true, _&&_};
-ghost use Prim.Native.Nat.{ℕ, _+_, _*_, _≤_, _<_, _^_};
+ghost use Prim.Native.Nat.{ℕ, _≤_, _^_};
 ghost use lib.Dec.{ltb};
-ghost use lib.ListN.{length};
 ghost use Rattle.sets.specs.Member.{has};
-ghost use Rattle.image.specs.Records.{header, condition-record};
-ghost use Rattle.image.specs.Rows.{judge, condition-fits};
+ghost use Rattle.image.specs.Rows.{judge};
 ghost use Rattle.image.specs.Check.{shape-of};
 ghost use Rattle.image.specs.Sets.{in-condition, Turn, SetsOf, condition-rows, set-answer};
 ghost use Rattle.image.specs.Theorem.Accepted.{Accepted};

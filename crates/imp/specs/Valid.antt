@@ -1,5 +1,5 @@
 -- What an image can hold: "16 variables, 0 to 15, of 32 bits signed", so a routine's numbers are of 32 bits and its variables below 16.
-use Prim.Native.Nat.{ℕ, _<_}
+use Prim.Native.Nat.{_<_}
 use mir.Syntax.{w32}
 use mir.Val.{SFits}
 use Rattle.imp.specs.Routine.{Arithmetic, number, variable, sum, pick, choiceᵃ, Boolean, falseᵇ, trueᵇ, notᵇ, andᵇ, less, choiceᵇ, Statement, skip, assign, sequence, if, while, throw, try, choice}

@@ -1,5 +1,5 @@
 -- `bench_configure` meets its contract: the reply of `written`, in the space lent for it.
-use mathlib.Core.Path.{_≡_, _∙_, ap}
+use mathlib.Core.Path.{_∙_, ap}
 use borrow.Author.Needs.{needs}
 use Rattle.calls.specs.Reply.{filled}
 use Rattle.calls.proofs.bench_configure.Statement.{statement}

@@ -1,5 +1,5 @@
 -- `checked` meets its contract: the check's answer, in numbers.
-use mathlib.Core.Path.{_≡_, sym, _∙_, ap}
+use mathlib.Core.Path.{sym, _∙_, ap}
 use borrow.Author.Needs.{needs}
 use Rattle.image.specs.Check.{answer-of}
 use Rattle.calls.specs.Reply.{reply, shape-reply}

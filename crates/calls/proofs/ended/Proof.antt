@@ -1,5 +1,5 @@
 -- `ended` meets its contract: the plain run's answer, in numbers.
-use mathlib.Core.Path.{_≡_, sym, _∙_, ap}
+use mathlib.Core.Path.{sym, _∙_, ap}
 use borrow.Author.Needs.{needs}
 use Rattle.plain.specs.PlainRun.{plain-answer}
 use Rattle.calls.specs.Reply.{reply, progress-reply}

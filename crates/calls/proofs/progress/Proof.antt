@@ -1,5 +1,5 @@
 -- `progress` meets its contract: outcome, the 32 bits of the code, and steps.
-use mathlib.Core.Path.{_≡_, _∙_, ap}
+use mathlib.Core.Path.{_∙_, ap}
 use mir.Facts.{toZ-ofZ}
 use borrow.Author.Needs.{needs}
 use Rattle.imp.specs.Numbers.{low32}

@@ -1,7 +1,5 @@
 -- `refused` meets its contract: the refusal's number and place, as `image` gives them.
-use mathlib.Core.Path.{_≡_}
 use borrow.Author.Needs.{needs}
-use Rattle.calls.specs.declared.Reply.{Reply}
 use Rattle.calls.proofs.refused.Statement.{statement}
 use Rattle.calls.proofs.refused.Tie as tie
 

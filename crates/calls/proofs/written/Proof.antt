@@ -1,5 +1,5 @@
 -- `written` meets its contract: configuring's answer, in numbers.
-use mathlib.Core.Path.{_≡_, sym, _∙_, ap}
+use mathlib.Core.Path.{sym, _∙_, ap}
 use borrow.Author.Needs.{needs}
 use Rattle.configure.specs.Configured.{configure-answer}
 use Rattle.calls.specs.Reply.{reply, length-reply}
