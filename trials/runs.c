@@ -66,54 +66,24 @@ static void hand(void) {
     comes_back("(b) setting 0", &h0, 3, 3, 0, 3, 0, 310);
     comes_back("(b) setting 1", &h1, 3, 3, 0, 3, 0, 380);
     comes_back("(e)", &h1, 0, 3, 0, 0, 0, 0);
-    i = header(1, 1, 7); /* (g) */
-    set_condition(&i, 0, 2, 0, 0, 0);
-    set_number(&i, 0, 9);
-    set_node(&i, 1, 21, 0, 0, 0, 0);
-    set_node(&i, 2, 16, 0, 0, 0, 0);
-    set_node(&i, 3, 23, 0, 0, 1, 2);
-    set_number(&i, 4, 1);
-    set_node(&i, 5, 17, 2, 4, 0, 0);
-    set_node(&i, 6, 22, 1, 3, 5, 0);
+    i = case_g();
     Image g0 = plain(&i, 0), g1 = plain(&i, 1);
     comes_back("(g) setting 1, variable 1", &g1, 100, 1, 0, 3, 1, 9);
     comes_back("(g) setting 1, variable 2", &g1, 100, 1, 0, 3, 2, 1);
     comes_back("(g) setting 0", &g0, 100, 1, 0, 2, 1, 0);
-    i = header(1, 1, 10); /* (h) */
-    set_condition(&i, 0, 2, 0, 0, 0);
-    set_node(&i, 0, 1, 0, 0, 0, 0);
-    set_number(&i, 1, 2);
-    set_number(&i, 2, 1);
-    set_node(&i, 3, 4, 0, 0, 1, 2);
-    set_node(&i, 4, 12, 0, 0, 3, 0);
-    set_node(&i, 5, 1, 0, 0, 0, 0);
-    set_number(&i, 6, 1);
-    set_node(&i, 7, 2, 0, 5, 6, 0);
-    set_node(&i, 8, 17, 0, 7, 0, 0);
-    set_node(&i, 9, 20, 0, 4, 8, 0);
+    i = case_h();
     Image l0 = plain(&i, 0), l1 = plain(&i, 1);
     comes_back("(h) setting 1", &l1, 100, 1, 0, 5, 0, 2);
     comes_back("(h) setting 0", &l0, 100, 1, 0, 3, 0, 1);
-    i = header(0, 0, 4); /* (i) */
-    set_number(&i, 0, 2147483647);
-    set_number(&i, 1, 1);
-    set_node(&i, 2, 2, 0, 0, 1, 0);
-    set_node(&i, 3, 17, 5, 2, 0, 0);
+    i = case_i();
     comes_back("(i)", &i, 100, 1, 0, 1, 5, INT32_MIN);
-    i = header(0, 0, 2); /* (j) */
-    set_number(&i, 0, 0);
-    set_node(&i, 1, 21, 0, 0, 0, 0);
+    i = case_j();
     comes_back("(j)", &i, 100, 2, 0, 1, 0, 0);
     i = deep_tree(0);
     comes_back("while true do skip, budget 100,000", &i, 100000, 3, 0, 100000, 0, 0);
     i = deep_tree(1000);
     comes_back("a test 1,000 deep, budget 100,000", &i, 100000, 3, 0, 100000, 0, 0);
-    i = header(0, 0, 1023); /* a sequence 511 deep */
-    set_node(&i, 0, 16, 0, 0, 0, 0);
-    for (unsigned n = 1; n < 1023; n += 2) {
-        set_node(&i, n, 16, 0, 0, 0, 0);
-        set_node(&i, n + 1, 18, 0, n - 1, n, 0);
-    }
+    i = sequences();
     comes_back("sequences 511 deep", &i, 100000, 1, 0, 1023, 0, 0);
 }
 

@@ -1,4 +1,4 @@
-/* Images to try: how one is made, routine H by hand, images at document 01's limits, and one with a node of every kind. */
+/* Images to try: how one is made, routine H and the other cases by hand, images at document 01's limits, and one with a node of every kind. */
 #include "oracle_run.h"
 
 typedef struct { uint8_t m[LONGEST + 64]; size_t length; } Image;
@@ -104,5 +104,65 @@ static Image all_kinds(void) {
     set_node(&i, 25, 16, 0, 0, 0, 0);
     set_node(&i, 26, 19, 0, 24, 23, 25);
     set_node(&i, 27, 18, 0, 9, 26, 0);
+    return i;
+}
+
+/* (g): try (choice: throw 9, else skip) catch 1 with variable 2 := 1 */
+static Image case_g(void) {
+    Image i = header(1, 1, 7);
+    set_condition(&i, 0, 2, 0, 0, 0);
+    set_number(&i, 0, 9);
+    set_node(&i, 1, 21, 0, 0, 0, 0);
+    set_node(&i, 2, 16, 0, 0, 0, 0);
+    set_node(&i, 3, 23, 0, 0, 1, 2);
+    set_number(&i, 4, 1);
+    set_node(&i, 5, 17, 2, 4, 0, 0);
+    set_node(&i, 6, 22, 1, 3, 5, 0);
+    return i;
+}
+
+/* (h): while variable 0 < (choice: 2, else 1) add 1 to it */
+static Image case_h(void) {
+    Image i = header(1, 1, 10);
+    set_condition(&i, 0, 2, 0, 0, 0);
+    set_node(&i, 0, 1, 0, 0, 0, 0);
+    set_number(&i, 1, 2);
+    set_number(&i, 2, 1);
+    set_node(&i, 3, 4, 0, 0, 1, 2);
+    set_node(&i, 4, 12, 0, 0, 3, 0);
+    set_node(&i, 5, 1, 0, 0, 0, 0);
+    set_number(&i, 6, 1);
+    set_node(&i, 7, 2, 0, 5, 6, 0);
+    set_node(&i, 8, 17, 0, 7, 0, 0);
+    set_node(&i, 9, 20, 0, 4, 8, 0);
+    return i;
+}
+
+/* (i): variable 5 := 2147483647 + 1 */
+static Image case_i(void) {
+    Image i = header(0, 0, 4);
+    set_number(&i, 0, 2147483647);
+    set_number(&i, 1, 1);
+    set_node(&i, 2, 2, 0, 0, 1, 0);
+    set_node(&i, 3, 17, 5, 2, 0, 0);
+    return i;
+}
+
+/* (j): an uncaught throw 0 */
+static Image case_j(void) {
+    Image i = header(0, 0, 2);
+    set_number(&i, 0, 0);
+    set_node(&i, 1, 21, 0, 0, 0, 0);
+    return i;
+}
+
+/* a sequence 511 deep */
+static Image sequences(void) {
+    Image i = header(0, 0, 1023);
+    set_node(&i, 0, 16, 0, 0, 0, 0);
+    for (unsigned n = 1; n < 1023; n += 2) {
+        set_node(&i, n, 16, 0, 0, 0, 0);
+        set_node(&i, n + 1, 18, 0, n - 1, n, 0);
+    }
     return i;
 }

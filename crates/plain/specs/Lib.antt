@@ -3,3 +3,4 @@ pub mod Evaluating
 pub mod Progress
 pub mod Running
 pub mod PlainRun
+pub mod Theorem

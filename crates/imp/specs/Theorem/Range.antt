@@ -90,7 +90,7 @@ run-fits b t l = run-keeps {A = Validᵃ} {R = λ σ σ′. good σ → good σ�
   taken = λ v σ g. (set-fits (σ .numbers) v _ (g .0) (g .1), zero-fits);
 }) t (every-valid t l)
 
-run-steps : (b : ℕ) (t : Statement ⊥) (σ : State) → σ .steps ≤ b → (run b t σ) .steps ≤ b
+pub run-steps : (b : ℕ) (t : Statement ⊥) (σ : State) → σ .steps ≤ b → (run b t σ) .steps ≤ b
 unfolding store State.thrown State.taken enter
 run-steps b t = run-keeps {A = Whatever} {R = λ σ σ′. σ .steps ≤ b → σ′ .steps ≤ b} (record {
   none = λ σ h. h;

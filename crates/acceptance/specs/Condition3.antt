@@ -1,0 +1,80 @@
+-- Condition 3, of the calls: what a shared run answers and leaves beside what configuring and plain runs do, each known by its promise alone.
+use mathlib.Core.Path.{_≡_, sym, _∙_, ap}
+use mathlib.Core.Bool.{true, false}
+use mathlib.Core.List.{List}
+use Prim.Native.Nat.{ℕ, _≤_, _<_}
+use lib.Dec.{eqb}
+use lib.IntN.{ℤ, pos}
+use lib.ListN.{length, getD, take}
+use Rattle.sets.specs.Member.{bit, has}
+use Rattle.imp.specs.State.{State, outcome-number, code, untouched}
+use Rattle.imp.specs.Theorem.Bounds.{total}
+use Rattle.image.specs.Bytes.{Bytes}
+use Rattle.image.specs.Sets.{settings}
+use Rattle.image.specs.Theorem.Accepted.{Accepted}
+use Rattle.configure.specs.declared.Configured.{Configured}
+use Rattle.configure.specs.declared.Configured.the-variants.{Length}
+use Rattle.configure.specs.Configured.{configure-rows, Configures}
+use Rattle.plain.specs.declared.progress.Progress.{Progress}
+use Rattle.plain.specs.declared.PlainRun.{PlainRun}
+use Rattle.plain.specs.declared.PlainRun.the-variants as Plain
+use Rattle.plain.specs.PlainRun.{progress-of, plain-rows, Runs}
+use Rattle.shared.specs.declared.Ends.{Ends}
+use Rattle.shared.specs.declared.SharedRun.the-variants.{Ended}
+use Rattle.shared.specs.Lent.{Tally, progress, part}
+use Rattle.shared.specs.SharedRun.{shared-rows, SharedRuns}
+use Rattle.acceptance.specs.Theorem.Shared as Run
+use Rattle.acceptance.specs.Theorem.Answer.{least, most, in-fault, is-out, no-visit, no-step, no-fault, no-out}
+use Rattle.acceptance.specs.Theorem.Configured.{image-written, is-written}
+use Rattle.acceptance.specs.Theorem.Plain.{plain-ends}
+
+-- a setting that was not run: "idle, 0, 0"
+abbrev pub idle : Progress
+idle = record { outcome = 0; code = pos 0; steps = 0 }
+
+-- a set, a budget and a store xs were lent, and the run answered e and left the store xs′ and the tally T′
+pub record Condition3 (l : Bytes) (set budget : ℕ) (xs xs′ : List ℤ) (T′ : Tally) (e : Ends) : Type 0 where
+  -- configuring for a setting in the set is carried out, with space for the longest image
+  pub written : (s : ℕ) → bit set s ≡ true → (out out′ : Bytes) (r : Configured) → 8200 ≤ length out
+      → Configures (configure-rows l s (length out)) l s out out′ r → (n : ℕ) × (r ≡ Length n)
+  -- "For each setting in the set, the shared run leaves the same numbers, outcome, code and steps as the plain run of the routine configured for it": a plain
+  -- run of the image that configuring wrote, from the setting's part of the store, is carried out
+  pub inside : (s : ℕ) → bit set s ≡ true
+      → (out out′ : Bytes) (n : ℕ) → Configures (configure-rows l s (length out)) l s out out′ (Length n)
+      → (ns′ : List ℤ) (r : PlainRun) → Runs (plain-rows (take n out′) budget (length (part xs s))) (take n out′) budget (part xs s) ns′ r
+      → (r ≡ Plain.Ended (progress T′ s)) × (ns′ ≡ part xs′ s)
+  -- "outside the set nothing changes and the outcome is idle"
+  pub outside : (s : ℕ) → s < settings l → bit set s ≡ false → (progress T′ s ≡ idle) × (part xs′ s ≡ part xs s)
+  -- "visits are at least the largest step count and at most their sum"
+  pub least : (s : ℕ) → s < settings l → getD (T′ .steps) s 0 ≤ e .visits
+  pub most : e .visits ≤ total (settings l) (λ s. getD (T′ .steps) s 0)
+  -- the empty set: no visit, no step, nobody in fault or out
+  pub empty : set ≡ 0 → (e .visits ≡ 0) × ((s : ℕ) → s < settings l → getD (T′ .steps) s 0 ≡ 0) × (e .fault .bits ≡ 0) × (e .out .bits ≡ 0)
+  -- "the set in fault and the set out", by the outcomes
+  pub in-fault : (s : ℕ) → has (e .fault) s ≡ eqb (getD (T′ .outcomes) s 0) 2
+  pub is-out : (s : ℕ) → has (e .out) s ≡ eqb (getD (T′ .outcomes) s 0) 3
+
+pub condition-3 : (l : Bytes) (set budget : ℕ) (xs xs′ : List ℤ) (T T′ : Tally) (e : Ends)
+    → SharedRuns (shared-rows l set budget xs T) l set budget xs T xs′ T′ (Ended e) → Condition3 l set budget xs xs′ T′ e
+unfolding progress-of untouched outcome-number code
+condition-3 l set budget xs xs′ T T′ e ran =
+    let accepted : Accepted l = Run.is-accepted ran in
+    record {
+      written = λ s i out out′ r room wrote. is-written l s out out′ accepted (Run.below ran s i) room wrote;
+      inside = λ s i out out′ n wrote ns′ r runs.
+          let below : s < settings l = Run.below ran s i in
+          let end-is = sym (Run.inside-is ran s i) in
+          let ends = plain-ends l accepted s budget (Run.allowed ran) (part xs s) (Run.sixteen ran s below) (image-written l s out out′ wrote) runs in (
+            ends .0 ∙ ap (λ σ. Plain.Ended (progress-of σ)) end-is ∙ ap Plain.Ended (sym (Run.progress-left ran s below)),
+            ends .1 ∙ ap (λ (σ : State). σ .numbers) end-is ∙ sym (Run.numbers-left ran s below),
+          );
+      outside = λ s h i. (
+        Run.progress-left ran s h ∙ ap progress-of (Run.outside-is ran s h i),
+        Run.numbers-left ran s h ∙ ap (λ (σ : State). σ .numbers) (Run.outside-is ran s h i),
+      );
+      least = least ran;
+      most = most ran;
+      empty = λ z. (no-visit ran z, no-step ran z, no-fault ran z, no-out ran z);
+      in-fault = in-fault ran;
+      is-out = is-out ran;
+    }

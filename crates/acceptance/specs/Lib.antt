@@ -1,0 +1,3 @@
+-- What holds between the calls.
+pub mod Theorem
+pub mod Condition3

@@ -1,0 +1,1 @@
+// The conditions that hold between the calls.

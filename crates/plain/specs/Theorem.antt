@@ -1,0 +1,2 @@
+-- What is proved of images that hold no choice.
+pub mod NoChoice

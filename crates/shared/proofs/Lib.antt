@@ -1,0 +1,22 @@
+-- The laws that the proofs of the run over a set of settings share.
+pub mod Members
+pub mod Each
+pub mod Found
+pub mod SetOf
+pub mod Tallies
+pub mod Parts
+pub mod Own
+pub mod Beginning
+pub mod Acts
+pub mod Begun
+pub mod Keeping
+pub mod Whose
+pub mod Parting
+pub mod Statements
+pub mod Loops
+pub mod Tries
+pub mod Made
+pub mod Starting
+pub mod Result
+pub mod Carrying
+pub mod Entry
