@@ -1,2 +1,3 @@
 -- What the calls from C reply.
 pub mod Reply
+pub mod Shared

@@ -7,6 +7,7 @@ use lib.ListN.{length}
 use Rattle.image.specs.declared.accept.Shape.{Shape}
 use Rattle.imp.specs.Numbers.{low32}
 use Rattle.plain.specs.declared.progress.Progress.{Progress}
+use Rattle.shared.specs.declared.Ends.{Ends}
 use Rattle.image.specs.Rows.{Answer, refused, answer}
 use Rattle.calls.specs.declared.Reply.{Reply}
 
@@ -35,6 +36,10 @@ length-reply n = values n 0 0
 -- outcome, code as 32 bits, steps
 abbrev pub progress-reply : Progress → Reply
 progress-reply p = values (p .outcome) (low32 (p .code)) (p .steps)
+
+-- the visits, the set in fault, the set out
+abbrev pub ends-reply : Ends → Reply
+ends-reply e = values (e .visits) (e .fault .bits) (e .out .bits)
 
 -- a reply takes all of the space that a caller lends for it, or none
 unfoldable pub filled : Reply → List ℕ → List ℕ

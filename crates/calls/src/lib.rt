@@ -6,7 +6,9 @@ ghost use Rattle.image.specs.Rows.{refused, judge, check-rows, written};
 ghost use Rattle.image.specs.Check.{shape-of};
 ghost use Rattle.image.specs.Sets.{in-condition, condition-rows};
 ghost use Rattle.configure.specs.Configured.{configured, configure-rows, over};
-ghost use Rattle.calls.specs.Reply.{reply, no-values, shape-reply, member-reply, length-reply, progress-reply, filled};
+ghost use Rattle.calls.specs.Reply.{reply, no-values, shape-reply, member-reply, length-reply, progress-reply, ends-reply, filled};
+ghost use Rattle.calls.specs.Shared.{EndedAll, AnsweredAll};
+ghost use Rattle.shared.specs.Lent.{tally};
 ghost use Rattle.plain.specs.PlainRun.{meant, progress-of, plain-rows};
 use configure::Configured;
 use configure::configure;
@@ -21,6 +23,10 @@ use imp::bits;
 use plain::PlainRun;
 use plain::plain_run;
 use plain::progress::Progress;
+use sets::Set;
+use shared::Ends;
+use shared::SharedRun;
+use shared::shared_run;
 
 // Carried out: number 0 and the call's values. Refused: number and place.
 pub struct Reply {
@@ -115,6 +121,39 @@ fn ended(image: &[u8], budget: u32, numbers: &mut [i32]) -> Reply
     }
 }
 
+// The visits, the set in fault, the set out.
+fn ends(e: Ends) -> Reply
+    ensures { λ y. ⌜ y ≡ ends-reply e ⌝ }
+{
+    let fault = e.fault;
+    let out = e.out;
+    Reply {
+        number: 0,
+        place: 0,
+        first: e.visits as usize,
+        second: fault.bits as usize,
+        third: out.bits as usize,
+    }
+}
+
+fn ended_all(
+    image: &[u8],
+    set: u64,
+    budget: u32,
+    store: &mut [i32],
+    outcomes: &mut [u8],
+    codes: &mut [i32],
+    steps: &mut [u32],
+) -> Reply
+    ensures { λ y. ⌜ EndedAll (now (image .entry)) set budget (now (store .entry)) (tally (now (outcomes .entry)) (now (codes .entry)) (now (steps .entry))) (now (store .exit)) (tally (now (outcomes .exit)) (now (codes .exit)) (now (steps .exit))) y ⌝ }
+{
+    let on = Set { bits: set };
+    match shared_run(image, on, budget, store, outcomes, codes, steps) {
+        SharedRun::Refused(r) => refused(r),
+        SharedRun::Ended(e) => ends(e),
+    }
+}
+
 // The reply's five numbers, where there is space for just these.
 fn fill(r: Reply, answer: &mut [usize])
     ensures { λ _. ⌜ now (answer .exit) ≡ filled r (now (answer .entry)) ⌝ }
@@ -164,5 +203,22 @@ pub extern "C" fn bench_plain_run(
     ensures { λ _. ⌜ now (numbers .exit) ≡ written (plain-rows (now (image .entry)) budget (length (now (numbers .entry)))) (meant (now (image .entry)) budget (now (numbers .entry)) .numbers) (now (numbers .entry)) ⌝ }
 {
     let r = ended(image, budget, numbers);
+    fill(r, answer);
+}
+
+#[no_mangle]
+pub extern "C" fn bench_shared_run(
+    image: &[u8],
+    set: u64,
+    budget: u32,
+    store: &mut [i32],
+    outcomes: &mut [u8],
+    codes: &mut [i32],
+    steps: &mut [u32],
+    answer: &mut [usize],
+)
+    ensures { λ _. ⌜ AnsweredAll (now (image .entry)) set budget (now (store .entry)) (tally (now (outcomes .entry)) (now (codes .entry)) (now (steps .entry))) (now (store .exit)) (tally (now (outcomes .exit)) (now (codes .exit)) (now (steps .exit))) (now (answer .entry)) (now (answer .exit)) ⌝ }
+{
+    let r = ended_all(image, set, budget, store, outcomes, codes, steps);
     fill(r, answer);
 }

@@ -6,13 +6,13 @@ use Prim.Native.Nat.{ℕ, _*_, _≤_, _<_}
 use native.Mathlib.Omega.{arith}
 use lib.Dec.{eqb}
 use lib.IntN.{ℤ, pos}
-use lib.ListN.{length, getD, set}
-use borrow.Author.Tests.{ne-eqb}
+use lib.ListN.{length, length-set, getD, set}
+use borrow.Author.Tests.{eq-eqb, ne-eqb}
 use Rattle.sets.specs.Member.{bit}
 use Rattle.imp.specs.Condition.{Condition, holds}
 use Rattle.imp.specs.Configure.{configure, configureᵇ}
 use Rattle.imp.specs.Routine.{Statement}
-use Rattle.imp.specs.State.{Numbers, State, branch, in-fault, code, store, thrown, taken}
+use Rattle.imp.specs.State.{Numbers, State, done, branch, store, thrown, taken}
 use Rattle.imp.specs.Plain.{truth, handled, run}
 use Rattle.imp.specs.Shared.{valueIn, truthIn}
 use Rattle.imp.specs.Theorem.Agreement.{value-agrees, truth-agrees}
@@ -28,7 +28,7 @@ use Rattle.plain.specs.declared.progress.Progress.{Progress}
 use Rattle.plain.specs.Evaluating.{Evaluating}
 use Rattle.plain.specs.Progress.{outcome-from, state-of, Proper}
 use Rattle.plain.specs.Running.{Running, Began, Ran, turning}
-use Rattle.plain.proofs.Beginning.{acts, fault-is}
+use Rattle.plain.proofs.Beginning.{acts, fault-is, proper-done}
 use Rattle.plain.proofs.Evaluation.{At, of-side, is-kind, in-a, in-b, in-c, chosen}
 
 -- what node n does in setting s
@@ -49,18 +49,27 @@ passes-by : (v : ℕ) (f : State → State) (p : Progress) (ns : Numbers) → (p
 unfolding handled state-of
 passes-by v f p ns dead = rw (fault-is (p .outcome) (p .code) ∙ ne-eqb (p .outcome) 2 dead) refl
 
-caught : (v : ℕ) (f : State → State) (p : Progress) (ns : Numbers) → p .outcome ≡ 2
-    → f (state-of (record { outcome = 1; code = pos 0; steps = p .steps }) (set ns v (p .code))) ≡ handled v f (state-of p ns)
-unfolding handled state-of taken code in-fault outcome-from
-caught v f p ns e = rw e refl
+caught : (v : ℕ) (f : State → State) (p : Progress) (ns : Numbers) → p .outcome ≡ 2 → f (taken v (state-of p ns)) ≡ handled v f (state-of p ns)
+unfolding handled state-of
+caught v f p ns e = rw (fault-is (p .outcome) (p .code) ∙ eq-eqb (p .outcome) 2 e) refl
 
 pub handled-none : {σ : State} {r : Progress} {ns : Numbers} (v : ℕ) (f : State → State) → Ran σ r ns → (r .outcome ≡ 2 → ⊥) → Ran (handled v f σ) r ns
 handled-none {r = r} {ns = ns} v f h other =
     record { reaches = passes-by v f r ns other ∙ ap (handled v f) (h .reaches); proper = h .proper; sixteen = h .sixteen }
 
-pub handled-by : {σ : State} {r : Progress} {ns : Numbers} {x : ℤ} (v : ℕ) (f : State → State) → Ran σ r ns → r .outcome ≡ 2 → x ≡ r .code
-    → f (state-of (record { outcome = 1; code = pos 0; steps = r .steps }) (set ns v x)) ≡ handled v f σ
-handled-by {r = r} {ns = ns} v f h two e = rw e (caught v f r ns two) ∙ ap (handled v f) (h .reaches)
+pub handled-by : {σ : State} {r q : Progress} {ns ns′ : Numbers} (v : ℕ) (f : State → State) → Ran σ r ns → r .outcome ≡ 2 → Ran (taken v (state-of r ns)) q ns′
+    → f (state-of q ns′) ≡ handled v f σ
+handled-by {r = r} {ns = ns} v f h two was-taken = ap f (was-taken .reaches) ∙ caught v f r ns two ∙ ap (handled v f) (h .reaches)
+
+-- a fault is taken: its code goes into the variable
+pub takes : (v : ℕ) (p : Progress) (ns : Numbers) {x : ℤ} → Proper (p .outcome) (p .code) → length ns ≡ 16 → x ≡ p .code
+    → Ran (taken v (state-of p ns)) (record { outcome = 1; code = pos 0; steps = p .steps }) (set ns v x)
+unfolding state-of taken outcome-from
+takes v p ns {x} h sixteen e = record {
+  reaches = ap (λ z. record { numbers = set ns v z; outcome = done; steps = p .steps }) (e ∙ sym (h .code-is));
+  proper = proper-done;
+  sixteen = length-set ns v x ∙ sixteen;
+}
 
 -- the node is evaluated on other numbers
 pub on : {l : Bytes} {C : ℕ} {S : List ℕ} {s n κ : ℕ} {ns ns′ : List ℤ} → length ns′ ≡ 16 → Evaluating l C S s n κ ns → Evaluating l C S s n κ ns′

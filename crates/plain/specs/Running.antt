@@ -4,6 +4,7 @@ use Prim.Native.Nat.{ℕ, _≤_, _<_}
 use mathlib.Core.List.{List}
 use lib.IntN.{ℤ}
 use lib.ListN.{length}
+use Rattle.image.specs.declared.records.Node.{Node}
 use Rattle.image.specs.Bytes.{Bytes}
 use Rattle.image.specs.Tree.{read}
 use Rattle.imp.specs.Configure.{configure, configureᵇ}
@@ -31,6 +32,12 @@ pub record Trying (l : Bytes) (conditions : ℕ) (sets : List ℕ) (s body v han
   pub running : Running l conditions sets s body p numbers
   pub evaluating : Evaluating l conditions sets s handler 3 numbers
   pub variable-below : v < 16
+
+-- a try takes a fault
+pub record Takes (ν : Node) (p : Progress) (ns : List ℤ) : Type 0 where
+  pub variable-below : ν .variable < 16
+  pub proper : Proper (p .outcome) (p .code)
+  pub sixteen : length ns ≡ 16
 
 -- what a while does once it is begun
 abbrev pub turning : ℕ → ℕ → Bytes → ℕ → ℕ → State → State

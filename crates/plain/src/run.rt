@@ -10,6 +10,7 @@ use crate::step::assign;
 use crate::step::begin;
 use crate::step::decided;
 use crate::step::fault;
+use crate::step::take;
 use crate::step::tested;
 use image::records::Node;
 use image::records::node_at;
@@ -97,13 +98,6 @@ fn attempt(
     if r.outcome != 2 {
         return r;
     }
-    let v = node.variable;
-    let code = r.code;
-    numbers[v] = code;
-    let q = Progress {
-        outcome: 1,
-        code: 0,
-        steps: r.steps,
-    };
+    let q = take(node, r, numbers);
     run(image, conditions, sets, s, node.b, budget, q, numbers)
 }

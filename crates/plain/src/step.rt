@@ -1,14 +1,14 @@
-// What a statement does without running another: it begins, it tests, assigns or throws.
+// What a statement does without running another: it begins, tests, assigns, throws or takes a fault.
 ghost use mathlib.Core.Path.{_≡_};
 ghost use mathlib.Core.Bool.{_&&_, cond};
 ghost use lib.Dec.{eqb};
 ghost use Prim.Native.Nat.{_<_};
 ghost use Rattle.imp.specs.Shared.{valueIn, truthIn};
-ghost use Rattle.imp.specs.State.{store, thrown};
+ghost use Rattle.imp.specs.State.{store, thrown, taken};
 ghost use Rattle.image.specs.Tree.{read};
 ghost use Rattle.plain.specs.Evaluating.{Evaluating};
 ghost use Rattle.plain.specs.Progress.{Proper, state-of};
-ghost use Rattle.plain.specs.Running.{Began, Ran};
+ghost use Rattle.plain.specs.Running.{Takes, Began, Ran};
 use crate::evaluate::arithmetic;
 use crate::evaluate::boolean;
 use crate::evaluate::side;
@@ -108,6 +108,21 @@ pub fn fault(
     Progress {
         outcome: 2,
         code: code,
+        steps: p.steps,
+    }
+}
+
+// A try "stores n in its variable, clears the fault".
+pub fn take(node: Node, p: Progress, numbers: &mut [i32]) -> Progress
+    requires { ⌜ Takes node p (now numbers) ⌝ }
+    ensures { λ r. ⌜ Ran (taken (node .variable) (state-of p (now (numbers .entry)))) r (now (numbers .exit)) ⌝ }
+{
+    let v = node.variable;
+    let code = p.code;
+    numbers[v] = code;
+    Progress {
+        outcome: 1,
+        code: 0,
         steps: p.steps,
     }
 }

@@ -5,22 +5,21 @@ use mathlib.Core.List.{List}
 use Prim.Native.Nat.{ℕ, _+_, _-_, _*_, _<_}
 use native.Mathlib.Decide.{ℕ-discrete}
 use lib.Dec.{eqb}
-use lib.IntN.{ℤ, pos}
-use lib.ListN.{length, set, length-set}
+use lib.IntN.{ℤ}
+use lib.ListN.{set}
 use borrow.Author.Tests.{eq-eqb, ne-eqb}
 use borrow.Rule.Slice.PartMut.{putMid}
 use Rattle.sets.specs.declared.Set.{Set}
 use Rattle.sets.specs.Member.{bit}
-use Rattle.imp.specs.State.{Numbers, State, done, store, thrown, taken}
+use Rattle.imp.specs.State.{Numbers, State, store, thrown, taken}
 use Rattle.imp.specs.Shared.{valueIn, Settings, for}
 use Rattle.imp.specs.Theorem.Live.{Below}
 use Rattle.image.specs.declared.records.Node.{Node}
 use Rattle.image.specs.Bytes.{Bytes}
 use Rattle.image.specs.Tree.{read}
 use Rattle.plain.specs.declared.progress.Progress.{Progress}
-use Rattle.plain.specs.Progress.{outcome-from, state-of, Proper}
+use Rattle.plain.specs.Progress.{state-of}
 use Rattle.plain.specs.Running.{Ran}
-use Rattle.plain.proofs.Beginning.{proper-done}
 use Rattle.shared.specs.declared.plan.Plan.{Plan}
 use Rattle.shared.specs.Lent.{Tally, Tallied, Lent, progress, put, part, own, as-shared}
 use Rattle.shared.specs.Each.{Only}
@@ -46,16 +45,6 @@ module _ (l : Bytes) (ν : Node) (s : ℕ) (p : Progress) (ns : Numbers) where
   pub take-acts : (ν .kind ≡ 17 → ⊥) → (ν .kind ≡ 21 → ⊥) → taken (ν .variable) (state-of p ns) ≡ acting l ν s (state-of p ns)
   unfolding acting
   take-acts e f = rw (ne-eqb (ν .kind) 17 e, ne-eqb (ν .kind) 21 f) refl
-
--- a fault is taken: its code goes into the variable
-pub takes : (v : ℕ) (p : Progress) (ns : Numbers) {x : ℤ} → Proper (p .outcome) (p .code) → length ns ≡ 16 → x ≡ p .code
-    → Ran (taken v (state-of p ns)) (record { outcome = 1; code = pos 0; steps = p .steps }) (set ns v x)
-unfolding state-of taken outcome-from
-takes v p ns {x} h sixteen e = record {
-  reaches = ap (λ z. record { numbers = set ns v z; outcome = done; steps = p .steps }) (e ∙ sym (h .code-is));
-  proper = proper-done;
-  sixteen = length-set ns v x ∙ sixteen;
-}
 
 -- ---- of all settings
 

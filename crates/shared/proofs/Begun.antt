@@ -7,7 +7,7 @@ use Rattle.imp.specs.Routine.{Statement, skip, assign, sequence, if, while, thr
 use Rattle.imp.specs.State.{branch, State, ready, enter}
 use Rattle.imp.specs.Shared.{Settings, any, Shared, for, visited, where-true, begun, turns, shared}
 use Rattle.imp.specs.Theorem.Sets.{any-false, any-true}
-use Rattle.imp.specs.Theorem.WhileShared.{left, reached, begun-some, begun-none}
+use Rattle.imp.specs.Theorem.WhileShared.{left, begun-some, begun-none}
 
 -- a part of a set in which none is ready: none of the part is, and its beginning after the rest's is the beginning of all
 parted : (u c r : Bool) → u && r ≡ false → (u && c) && r ≡ false

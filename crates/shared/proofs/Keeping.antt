@@ -1,7 +1,7 @@
 -- What a run asks for holds all along it: steps never fall and stay within the budget, and visits stay within the steps.
 use mathlib.Core.Path.{_≡_, refl, sym, _∙_, ap, subst, fun-ext}
-use Prim.Native.Nat.{ℕ, zero, suc, _+_, _*_, _≤_, _<_}
-use mathlib.Core.Bool.{Bool, true, false, _&&_, cond}
+use Prim.Native.Nat.{ℕ, zero, suc, _*_, _≤_, _<_}
+use mathlib.Core.Bool.{Bool, true, false, cond}
 use mathlib.Core.List.{List}
 use native.Mathlib.Omega.{arith}
 use native.Mathlib.Nat.{le-refl, le-trans, mul-le-mul, suc-mul}
@@ -18,14 +18,13 @@ use Rattle.imp.specs.Theorem.Sets.{and-true, any-has}
 use Rattle.imp.specs.Theorem.Agreement.{agrees}
 use Rattle.imp.specs.Theorem.Begin.{enter-steps}
 use Rattle.imp.specs.Theorem.Bounds.{total, steps-at, bounded}
-use Rattle.imp.specs.Theorem.Live.{Below}
 use Rattle.imp.specs.Theorem.Range.{run-steps}
 use Rattle.imp.specs.Theorem.WhileShared.{shared-grows}
 use Rattle.image.specs.Bytes.{Bytes}
 use Rattle.plain.specs.Progress.{state-of}
 use Rattle.shared.specs.declared.plan.Plan.{Plan}
 use Rattle.shared.specs.declared.turn.Turn.{Turn}
-use Rattle.shared.specs.Lent.{Tally, Lent, Tallied, progress, own, as-shared}
+use Rattle.shared.specs.Lent.{Tally, Lent, progress, own, as-shared}
 use Rattle.shared.specs.Beginning.{BeginningFor, BegunFor}
 use Rattle.shared.specs.Sharing.{Within, Sharing, Shares}
 use Rattle.shared.proofs.Begun.{begun-at}

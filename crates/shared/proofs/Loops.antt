@@ -1,7 +1,7 @@
 -- A while, turn by turn: what is left to do after a test, which each turn leaves the same, and the budget, of which each turn leaves one less.
-use mathlib.Core.Path.{_≡_, refl, sym, _∙_, ap, ap₂, subst, fun-ext}
-use Prim.Native.Nat.{ℕ, zero, suc, _+_, _≤_, _<_}
-use mathlib.Core.Bool.{Bool, true, false, not, _&&_, cond, false≢true}
+use mathlib.Core.Path.{_≡_, refl, sym, _∙_, ap, subst, fun-ext}
+use Prim.Native.Nat.{ℕ, suc, _≤_, _<_}
+use mathlib.Core.Bool.{Bool, true, false, not, cond}
 use mathlib.Core.List.{List}
 use native.Mathlib.Omega.{arith}
 use native.Mathlib.Nat.{le-refl, le-trans}
@@ -10,11 +10,10 @@ use lib.IntN.{ℤ}
 use Rattle.sets.specs.declared.Set.{Set}
 use Rattle.sets.specs.Member.{bit, members}
 use Rattle.imp.specs.Routine.{while, skip}
-use Rattle.imp.specs.State.{ready, enter}
 use Rattle.imp.specs.Shared.{Settings, any, Shared, for, where-true, shared}
 use Rattle.imp.specs.Theorem.Sets.{and-true, any-false, any-true}
 use Rattle.imp.specs.Theorem.Live.{Below, none-runs}
-use Rattle.imp.specs.Theorem.WhileShared.{left, reached, begun-some, begun-none, while-again}
+use Rattle.imp.specs.Theorem.WhileShared.{left, while-again}
 use Rattle.image.specs.declared.records.Node.{Node}
 use Rattle.image.specs.Bytes.{Bytes}
 use Rattle.image.specs.Tree.{read}

@@ -1,15 +1,14 @@
 -- A statement at its node: its children, and what it does once it is begun, kind by kind.
 use mathlib.Core.Path.{_≡_, refl, sym, _∙_, ap}
-use Prim.Native.Nat.{ℕ, _+_, _*_, _≤_, _<_}
+use Prim.Native.Nat.{ℕ, _<_}
 use mathlib.Core.Bool.{Bool, true, false, not, _&&_, _||_, cond}
 use native.Mathlib.Omega.{arith}
 use lib.Dec.{eqb}
 use borrow.Author.Tests.{eq-eqb, ne-eqb, eqb-true}
-use lib.ListN.{length}
 use Rattle.imp.specs.Condition.{Condition}
 use Rattle.imp.specs.Routine.{Statement}
 use Rattle.imp.specs.State.{State, store, thrown, taken}
-use Rattle.imp.specs.Shared.{Settings, Shared, for, begun, turns, shared}
+use Rattle.imp.specs.Shared.{Settings, Shared, for, begun, shared}
 use Rattle.imp.specs.Theorem.WhileShared.{while-again}
 use Rattle.image.specs.declared.records.Node.{Node}
 use Rattle.image.specs.Bytes.{Bytes}

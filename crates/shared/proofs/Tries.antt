@@ -1,11 +1,11 @@
 -- A try, once its body has run: those whose body ended in fault have it taken, and the handler runs for exactly them.
 use mathlib.Core.Path.{_≡_, refl, sym, _∙_, ap, subst, fun-ext}
-use Prim.Native.Nat.{ℕ, _<_}
+use Prim.Native.Nat.{ℕ}
 use mathlib.Core.List.{List}
 use lib.IntN.{ℤ}
 use Rattle.sets.specs.declared.Set.{Set}
 use Rattle.sets.specs.Member.{bit}
-use Rattle.imp.specs.State.{State, in-fault, taken}
+use Rattle.imp.specs.State.{in-fault, taken}
 use Rattle.imp.specs.Shared.{Settings, Shared, for, where-true}
 use Rattle.image.specs.declared.records.Node.{Node}
 use Rattle.image.specs.Bytes.{Bytes}

@@ -30,11 +30,6 @@ acting l ν s σ =
 
 -- ---- one setting, on its own sixteen numbers
 
-pub record Takes (ν : Node) (p : Progress) (ns : List ℤ) : Type 0 where
-  pub variable-below : ν .variable < 16
-  pub proper : Proper (p .outcome) (p .code)
-  pub sixteen : length ns ≡ 16
-
 pub record Acts (l : Bytes) (C : ℕ) (sets : List ℕ) (s : ℕ) (ν : Node) (p : Progress) (ns : List ℤ) : Type 0 where
   pub expression : (ν .kind ≡ 22 → ⊥) → Evaluating l C sets s (ν .a) 1 ns
   pub variable-below : (ν .kind ≡ 21 → ⊥) → ν .variable < 16

@@ -8,7 +8,7 @@ use lib.IntN.{ℤ}
 use lib.ListN.{length}
 use Rattle.sets.specs.declared.Set.{Set}
 use Rattle.sets.specs.Member.{bit}
-use Rattle.imp.specs.State.{Outcome, outcome-number, code}
+use Rattle.imp.specs.State.{outcome-number, code}
 use Rattle.imp.specs.Shared.{Settings, Shared, shared-run, beyond}
 use Rattle.imp.specs.Theorem.Live.{Below}
 use Rattle.image.specs.declared.accept.Shape.{Shape}

@@ -1,17 +1,15 @@
 -- Where a shared run starts, and who has ended how.
 use mathlib.Core.Path.{_≡_}
-use Prim.Native.Nat.{ℕ, _≤_, _<_}
-use mathlib.Core.Bool.{_&&_, cond}
+use Prim.Native.Nat.{ℕ}
+use mathlib.Core.Bool.{cond}
 use mathlib.Core.List.{List}
-use lib.Dec.{eqb, ltb}
 use lib.IntN.{ℤ, pos}
 use lib.ListN.{length}
 use Rattle.sets.specs.declared.Set.{Set}
 use Rattle.sets.specs.Member.{bit}
 use Rattle.imp.specs.Shared.{start}
-use Rattle.imp.specs.Theorem.Live.{Below}
 use Rattle.plain.specs.declared.progress.Progress.{Progress}
-use Rattle.shared.specs.Lent.{Tally, Tallied, progress, part, as-shared}
+use Rattle.shared.specs.Lent.{Tally, Tallied, part, as-shared}
 
 -- N of each, whatever they are
 pub record Sized (N : ℕ) (T : Tally) : Type 0 where

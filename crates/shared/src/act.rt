@@ -1,10 +1,9 @@
 // What a statement does by itself in each setting it is run for: an assignment, a throw, and a try that takes a fault.
 ghost use Prim.Native.Nat.{_<_};
-ghost use Rattle.imp.specs.State.{taken};
 ghost use Rattle.plain.specs.Progress.{state-of};
 ghost use Rattle.plain.specs.Running.{Ran};
 ghost use Rattle.shared.specs.Lent.{tally};
-ghost use Rattle.shared.specs.Acting.{acting, Acts, Takes, ActingAt, ActedAt, ActingFor, ActedFor};
+ghost use Rattle.shared.specs.Acting.{acting, Acts, ActingAt, ActedAt, ActingFor, ActedFor};
 use crate::lent::progress_of;
 use crate::lent::set_progress;
 use crate::plan::Plan;
@@ -13,22 +12,8 @@ use image::records::Node;
 use plain::progress::Progress;
 use plain::step::assign;
 use plain::step::fault;
+use plain::step::take;
 use sets::Set;
-
-// A try "stores n in its variable, clears the fault".
-fn take(node: Node, p: Progress, numbers: &mut [i32]) -> Progress
-    requires { ⌜ Takes node p (now numbers) ⌝ }
-    ensures { λ r. ⌜ Ran (taken (node .variable) (state-of p (now (numbers .entry)))) r (now (numbers .exit)) ⌝ }
-{
-    let v = node.variable;
-    let code = p.code;
-    numbers[v] = code;
-    Progress {
-        outcome: 1,
-        code: 0,
-        steps: p.steps,
-    }
-}
 
 // In one setting, on its own sixteen numbers.
 fn act(

@@ -1,14 +1,13 @@
 -- `run`, `repeat` and `attempt` meet their contracts: the measure is the node's number, doubled to leave room between a node and its child.
 use mathlib.Core.Path.{_≡_, refl, sym, _∙_, ap}
 use native.Mathlib.Omega.{arith}
-use lib.ListN.{length-set}
 use borrow.Author.Needs.{needs}
 use borrow.Author.Tests.{eq-eqb}
 use Rattle.image.specs.Layout.{kinds, layout, names-node, is-choice}
 use Rattle.plain.specs.Progress.{state-of}
 use Rattle.plain.specs.Running.{Began}
-use Rattle.plain.proofs.Beginning.{proper-done, stays, charged}
-use Rattle.plain.proofs.Evaluation.{At, room, call-a, call-b, call-c, call-chosen, call-decided, set-there, through, statement-kind}
+use Rattle.plain.proofs.Beginning.{stays, charged}
+use Rattle.plain.proofs.Evaluation.{At, room, call-a, call-b, call-c, call-chosen, call-decided, set-there, statement-kind}
 use Rattle.plain.proofs.Statements.{last-kind, does, child-run, arrives, on, handled-none, handled-by, stored-below, choice-does, while-does, skip-does, assign-does, sequence-does, if-does, throw-does, try-does}
 use Rattle.plain.proofs.Loops.{Turning, turns-left, starting, turned, nearer, ending}
 use Prim.Native.Nat.{ℕ, _+_, _*_, _<_, max}
@@ -29,6 +28,7 @@ use Rattle.plain.proofs.step.assign.Reads as assign-reads
 use Rattle.plain.proofs.step.begin.Reads as begin-reads
 use Rattle.plain.proofs.step.decided.Reads as decided-reads
 use Rattle.plain.proofs.step.fault.Reads as fault-reads
+use Rattle.plain.proofs.step.take.Reads as take-reads
 use Rattle.plain.proofs.step.tested.Reads as tested-reads
 use Rattle.plain.proofs.run.+attempt+repeat+run.{statement}
 use Rattle.plain.proofs.run.+attempt+repeat+run.Tie.{close}
@@ -61,7 +61,7 @@ abbrev run-below : ℕ → In 3 run-kinds.ps
 run-below t = and 3 run-kinds.ps (falls 3 run-kinds.ps _<_ μ-run t) run.Pre
 
 abbrev attempt-uses : ℕ → attempt-lts.Claims
-attempt-uses t = (run-below t, run.Post)
+attempt-uses t = (run-below t, run.Post, take-reads.Asked, take-reads.Learnt)
 
 abbrev repeat-uses : ℕ → repeat-lts.Claims
 repeat-uses t = (tested-reads.Asked, tested-reads.Learnt, run-below t, run.Post, begin-reads.Asked, begin-reads.Learnt)
@@ -106,31 +106,26 @@ attempt-same-length t c = search needs
 attempt-returns : (t : ℕ) → Of-attempt attempt-lts.Need-returns t
 attempt-returns t c = handled-none _ _ (c .before .before .before .run .ensures) (λ two. omega (arith, two))
 
-attempt-mul-code : (t : ℕ) → Of-attempt attempt-lts.Need-mul-code t
-attempt-mul-code t c = omega (arith, c .before .before .before .before .before .before .before .before .pre .1 .variable-below)
-
-attempt-slice-set-from-code : (t : ℕ) → Of-attempt attempt-lts.Need-slice-set-from-code t
-attempt-slice-set-from-code t c =
-    let ran = c .before .before .before .before in
-    omega (arith, ran .before .before .before .before .pre .1 .variable-below, ran .run .ensures .sixteen)
+attempt-take-requires : (t : ℕ) → Of-attempt attempt-lts.Need-take-requires t
+attempt-take-requires t c κs =
+    let ran = c .before .before .before .before .run .ensures in
+    record { variable-below = c .before .before .before .before .before .before .before .before .pre .1 .variable-below; proper = ran .proper; sixteen = ran .sixteen }
 
 attempt-run-requires-2 : (t : ℕ) → Of-attempt attempt-lts.Need-run-requires-2 t
 attempt-run-requires-2 t c κs =
-    let pre = c .before .before .before .before .before .before .before .before .before .pre in
-    let ran = c .before .before .before .before .before .run .ensures in
-    (omega (arith, pre .0), record { evaluating = on (simp length-set (ran .sixteen)) (pre .1 .evaluating); proper = proper-done })
+    let pre = c .before .before .before .before .before .before .before .before .before .before .before .pre in
+    let was-taken = c .before .before .take .ensures in
+    (omega (arith, pre .0), record { evaluating = on (was-taken .sixteen) (pre .1 .evaluating); proper = was-taken .proper })
 
 attempt-same-length-2 : (t : ℕ) → Of-attempt attempt-lts.Need-same-length-2 t
 attempt-same-length-2 t c = search needs
 
 attempt-returns-2 : (t : ℕ) → Of-attempt attempt-lts.Need-returns-2 t
 attempt-returns-2 t c =
-    let ran = c .before .before .before .before .before .before .before in
+    let was-taken = c .before .before .before .before in
+    let ran = was-taken .before .before .before .before .before in
     let a = ran .before .before .before .before .args in
-    arrives
-    (handled-by (a .node .variable) (does (a .budget) (a .s) (a .image .now) (a .node .b)) (ran .run .ensures) (omega arith)
-    (through (c .before .before .before .struct-told .given .1 .0 .1) refl))
-    (c .before .run2 .ensures)
+    arrives (handled-by (a .node .variable) (does (a .budget) (a .s) (a .image .now) (a .node .b)) (ran .run .ensures) (omega arith) (was-taken .take .ensures)) (c .before .run2 .ensures)
 
 -- ---- repeat
 
@@ -411,8 +406,7 @@ pub +attempt+repeat+run-spec : {M : Type 1} → statement M
     (attempt-run-requires t)
     (attempt-same-length t)
     (attempt-returns t)
-    (attempt-mul-code t)
-    (attempt-slice-set-from-code t)
+    (attempt-take-requires t)
     (attempt-run-requires-2 t)
     (attempt-same-length-2 t)
     (attempt-returns-2 t))

@@ -1,9 +1,8 @@
 -- `repeat` meets its contract: each turn leaves what is still to do the same, and one less of the budget.
-use mathlib.Core.Path.{sym, _∙_, ap}
+use mathlib.Core.Path.{sym, _∙_}
 use native.Mathlib.Omega.{arith}
 use borrow.Author.Needs.{needs}
 use Rattle.sets.specs.Member.{bit}
-use Rattle.shared.specs.declared.turn.Turn.{Turn}
 use Rattle.shared.specs.Lent.{tally}
 use Rattle.shared.proofs.Made.{rem-of, begun-for}
 use Rattle.shared.proofs.Keeping.{after-run, reaching, can-begin, begun-on}

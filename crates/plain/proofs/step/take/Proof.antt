@@ -1,10 +1,10 @@
 -- `take` meets its contract: the fault's code goes into the variable, and the setting is done so far.
 use mathlib.Core.Path.{refl}
 use borrow.Author.Needs.{needs}
 use Rattle.plain.proofs.Evaluation.{through}
-use Rattle.shared.proofs.Acts.{takes}
-use Rattle.shared.proofs.act.take.Statement.{statement}
-use Rattle.shared.proofs.act.take.Tie as tie
+use Rattle.plain.proofs.Statements.{takes}
+use Rattle.plain.proofs.step.take.Statement.{statement}
+use Rattle.plain.proofs.step.take.Tie as tie
 
 returns : tie.Need-returns
 returns c =
