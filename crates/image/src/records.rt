@@ -39,7 +39,7 @@ fn wide(x: u8) -> u64
 }
 
 // The number that n bytes from `at` make, most significant first.
-fn number_at(image: &[u8], at: usize, n: usize) -> u64
+pub fn number_at(image: &[u8], at: usize, n: usize) -> u64
     requires { ⌜ (n ≤ 8) × (at + n ≤ length (now image)) ⌝ }
     ensures { λ r. ⌜ r ≡ number-at (now (image .entry)) at n ⌝ }
 {

@@ -1,1 +1,0 @@
-// The conditions that hold between the calls.

@@ -1,0 +1,78 @@
+-- How long the parts of a line are at most.
+use mathlib.Core.Path.{_≡_, refl, ap}
+use mathlib.Core.Bool.{Bool, true, false, cond}
+use mathlib.Core.List.{List, [], _∷_, _++_}
+use Prim.Native.Nat.{ℕ, suc, _+_, _-_, _^_, _≤_, _<_}
+use native.Mathlib.Omega.{arith}
+use lib.Dec.{eqb}
+use lib.IntN.{ℤ, pos, negsuc}
+use lib.ListN.{length, length-append}
+use mir.Syntax.{w32}
+use mir.Val.{SFits}
+use Rattle.imp.specs.Numbers.{low32}
+use Rattle.plain.specs.declared.progress.Progress.{Progress}
+use Rattle.lines.specs.Decimal.{decimal, signed-decimal}
+use Rattle.lines.specs.Words.{space, word, field}
+use Rattle.lines.specs.Text.{line}
+use Rattle.lines.proofs.Decimals.{short}
+
+-- ---- numbers
+
+pub two : (n : ℕ) → n < 100 → length (decimal n) ≤ 2
+two n h = short 18 1 n refl (omega arith)
+
+pub ten : (n : ℕ) → n < 2 ^ 32 → length (decimal n) ≤ 10
+ten n h = short 10 9 n refl (omega arith)
+
+pub twenty : (n : ℕ) → n < 2 ^ 64 → length (decimal n) ≤ 20
+twenty n h = short 0 19 n refl (omega arith)
+
+pub eleven : (z : ℤ) → SFits w32 z → length (signed-decimal z) ≤ 11
+unfolding signed-decimal
+eleven (pos n) f = omega (arith, ten n (omega arith))
+eleven (negsuc n) f = omega (arith, ten (suc n) (omega arith))
+
+-- the two ways of a signed number, by its bits
+pub plain : (z : ℤ) → SFits w32 z → low32 z < 2147483648 → decimal (low32 z) ≡ signed-decimal z
+unfolding signed-decimal low32
+plain (pos n) f h = ap decimal (omega arith)
+plain (negsuc n) f h = absurd (omega arith)
+
+pub minus : (z : ℤ) → SFits w32 z → 2147483648 ≤ low32 z → 45 ∷ decimal (4294967296 - low32 z) ≡ signed-decimal z
+unfolding signed-decimal low32
+minus (pos n) f h = absurd (omega arith)
+minus (negsuc n) f h = ap (λ k. 45 ∷ decimal k) (omega arith)
+
+-- ---- a field, a word, a line
+
+pub field-length : (name : List ℕ) (n end : ℕ) → length (field name n end) ≡ length name + length (decimal n) + 1
+unfolding field
+field-length name n end = omega (arith, length-append name (decimal n ++ (end ∷ [])), length-append (decimal n) (end ∷ []))
+
+pub word-length : (outcome : ℕ) → length (space ++ (word outcome ++ space)) ≤ 7
+unfolding word
+word-length outcome = go (eqb outcome 0) (eqb outcome 1) (eqb outcome 2)
+  where
+    go : (a b c : Bool) → length (space ++ (cond a (105 ∷ 100 ∷ 108 ∷ 101 ∷ []) (cond b (100 ∷ 111 ∷ 110 ∷ 101 ∷ []) (cond c (102 ∷ 97 ∷ 117 ∷ 108 ∷ 116 ∷ []) (111 ∷ 117 ∷ 116 ∷ []))) ++ space)) ≤ 7
+    go true b c = omega arith
+    go false true c = omega arith
+    go false false true = omega arith
+    go false false false = omega arith
+
+pub line-length : (s : ℕ) (p : Progress) → s < 64 → SFits w32 (p .code) → p .steps < 2 ^ 32 → length (line s p) ≤ 32
+unfolding line
+line-length s p h f g =
+    let w : List ℕ = space ++ (word (p .outcome) ++ space) in
+    let z : List ℕ = signed-decimal (p .code) in
+    let t : List ℕ = field space (p .steps) 10 in
+    omega (
+      arith,
+      two s (omega arith),
+      word-length (p .outcome),
+      eleven (p .code) f,
+      ten (p .steps) g,
+      field-length space (p .steps) 10,
+      length-append (decimal s) (w ++ (z ++ t)),
+      length-append w (z ++ t),
+      length-append z t,
+    )

@@ -1,0 +1,122 @@
+/* Calls the bench for a program that cannot link it. Reads batches of requests and writes a batch of replies for each; every
+   number is little-endian. A batch is its length in bytes (4) and that many bytes of requests. A request is the function's
+   number (1), a guard byte (1), two numbers x and y (8 each) and the function's slices, each its length in bytes (4) and its
+   bytes. The reply has each slice again after the call, with the guard bytes that stood before and after it. */
+#include <stdbool.h>
+#include <stdint.h>
+#include <stdio.h>
+#include <stdlib.h>
+#include <string.h>
+
+void bench_check(const uint8_t *, size_t, size_t *, size_t);
+void bench_condition_has(const uint8_t *, size_t, size_t, uint64_t, size_t *, size_t);
+void bench_configure(const uint8_t *, size_t, uint64_t, uint8_t *, size_t, size_t *, size_t);
+void bench_plain_run(const uint8_t *, size_t, uint32_t, int32_t *, size_t, size_t *, size_t);
+void bench_shared_run(const uint8_t *, size_t, uint64_t, uint32_t, int32_t *, size_t, uint8_t *, size_t, int32_t *, size_t,
+                      uint32_t *, size_t, size_t *, size_t);
+uint64_t sets_meet(uint64_t, uint64_t);
+uint64_t sets_join(uint64_t, uint64_t);
+uint64_t sets_take_away(uint64_t, uint64_t);
+bool sets_has(uint64_t, uint64_t);
+uint32_t sets_count(uint64_t);
+uint64_t sets_full(uint32_t);
+uint32_t sets_full_refusal(uint32_t);
+uint64_t sets_option(uint64_t, uint32_t);
+
+enum { GUARD = 16, MOST_SLICES = 6, FUNCTIONS = 13 };
+
+/* How many slices each function takes; the sets' functions write their result in a slice of one number. */
+static const int slices_of[FUNCTIONS] = {2, 2, 3, 3, 6, 1, 1, 1, 1, 1, 1, 1, 1};
+
+static void *some(size_t size)
+{
+    void *room = malloc(size ? size : 1);
+    if (!room)
+        exit(2);
+    return room;
+}
+
+static void take(void *to, const uint8_t **from, size_t size)
+{
+    memcpy(to, *from, size);
+    *from += size;
+}
+
+static void call(int function, uint64_t x, uint64_t y, void *const *at, const size_t *size)
+{
+    uint64_t *result = at[0];
+    switch (function) {
+    case 0: bench_check(at[0], size[0], at[1], size[1] / 8); break;
+    case 1: bench_condition_has(at[0], size[0], x, y, at[1], size[1] / 8); break;
+    case 2: bench_configure(at[0], size[0], x, at[1], size[1], at[2], size[2] / 8); break;
+    case 3: bench_plain_run(at[0], size[0], x, at[1], size[1] / 4, at[2], size[2] / 8); break;
+    case 4:
+        bench_shared_run(at[0], size[0], x, y, at[1], size[1] / 4, at[2], size[2], at[3], size[3] / 4, at[4], size[4] / 4,
+                         at[5], size[5] / 8);
+        break;
+    case 5: *result = sets_meet(x, y); break;
+    case 6: *result = sets_join(x, y); break;
+    case 7: *result = sets_take_away(x, y); break;
+    case 8: *result = sets_has(x, y); break;
+    case 9: *result = sets_count(x); break;
+    case 10: *result = sets_full(x); break;
+    case 11: *result = sets_full_refusal(x); break;
+    case 12: *result = sets_option(x, y); break;
+    }
+}
+
+/* One request at *from, its reply at to; gives the end of the reply. */
+static uint8_t *answer(const uint8_t **from, uint8_t *to)
+{
+    uint8_t function, guard;
+    uint64_t x, y;
+    take(&function, from, 1);
+    take(&guard, from, 1);
+    take(&x, from, 8);
+    take(&y, from, 8);
+    if (function >= FUNCTIONS)
+        exit(2);
+    uint8_t *room[MOST_SLICES];
+    void *at[MOST_SLICES];
+    size_t size[MOST_SLICES];
+    int slices = slices_of[function];
+    for (int i = 0; i < slices; i++) {
+        uint32_t length;
+        take(&length, from, 4);
+        size[i] = length;
+        room[i] = some(length + 2 * GUARD);
+        memset(room[i], guard, length + 2 * GUARD);
+        at[i] = room[i] + GUARD;
+        take(at[i], from, length);
+    }
+    call(function, x, y, at, size);
+    for (int i = 0; i < slices; i++) {
+        memcpy(to, room[i], size[i] + 2 * GUARD);
+        to += size[i] + 2 * GUARD;
+        free(room[i]);
+    }
+    return to;
+}
+
+int main(void)
+{
+    uint32_t length;
+    while (fread(&length, 4, 1, stdin) == 1) {
+        uint8_t *requests = some(length);
+        if (fread(requests, 1, length, stdin) != length)
+            return 2;
+        /* a slice of 4 + n bytes in a request has 32 + n in the reply, so eight times the room is enough */
+        uint8_t *replies = some((size_t)length * 8);
+        const uint8_t *from = requests;
+        uint8_t *to = replies;
+        while (from < requests + length)
+            to = answer(&from, to);
+        uint32_t written = to - replies;
+        fwrite(&written, 4, 1, stdout);
+        fwrite(replies, 1, written, stdout);
+        fflush(stdout);
+        free(requests);
+        free(replies);
+    }
+    return 0;
+}

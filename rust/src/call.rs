@@ -1,0 +1,179 @@
+//! A call of the bench: its numbers, the bytes of every slice lent to it, and what document 01 says they become.
+
+use crate::paper::check::{check, lowest_choice, refuse_at, refuse_if, Refusal};
+use crate::paper::conditions::{condition_sets, has, set_of, settings};
+use crate::paper::shared::State;
+use crate::paper::{configure, plain, shared, tree};
+
+#[derive(Clone, Copy, Debug)]
+pub enum Call {
+    Check,
+    ConditionHas { condition: u64, setting: u64 },
+    Configure { setting: u64 },
+    PlainRun { budget: u32 },
+    SharedRun { set: u64, budget: u32 },
+    Meet(u64, u64),
+    Join(u64, u64),
+    TakeAway(u64, u64),
+    Has(u64, u64),
+    Count(u64),
+    Full(u32),
+    FullRefusal(u32),
+    Option(u64, u32),
+}
+
+/// Slices: the image, then out; or the numbers; or store, outcomes, codes and steps; and last the answer. A call of
+/// the sets has one slice, for its result. Numbers in slices are little-endian.
+#[derive(Clone)]
+pub struct Case {
+    pub call: Call,
+    pub guard: u8,
+    pub slices: Vec<Vec<u8>>,
+}
+
+type Three = Result<[u64; 3], Refusal>;
+
+impl Case {
+    /// Every slice as it must be after the call.
+    pub fn expected(&self) -> Vec<Vec<u8>> {
+        let mut after = self.slices.clone();
+        if let Some(result) = self.set_result() {
+            after[0] = result.to_le_bytes().to_vec();
+            return after;
+        }
+        let answer = match self.carried_out(&mut after) {
+            Ok([first, second, third]) => [0, 0, first, second, third],
+            Err(refusal) => [refusal.number, refusal.place, 0, 0, 0],
+        };
+        // an answer of any other length stays as it was
+        if let Some(last) = after.last_mut().filter(|last| last.len() == 40) {
+            *last = answer.iter().flat_map(|n| n.to_le_bytes()).collect();
+        }
+        after
+    }
+
+    fn carried_out(&self, after: &mut [Vec<u8>]) -> Three {
+        let image = &self.slices[0];
+        match self.call {
+            Call::ConditionHas { condition, setting } => condition_has(image, condition, setting),
+            Call::Configure { setting } => configured(image, setting, &mut after[1]),
+            Call::PlainRun { budget } => plain_run(image, budget, &mut after[1]),
+            Call::SharedRun { set, budget } => shared_run(image, set, budget, &mut after[1..5]),
+            _ => check(image).map(|image| {
+                let header = image.header;
+                [header.options, header.conditions, header.nodes].map(|n| n as u64)
+            }),
+        }
+    }
+
+    /// The result of a call of the sets, worked out member by member.
+    fn set_result(&self) -> Option<u64> {
+        Some(match self.call {
+            Call::Meet(a, b) => set_of(64, |s| has(a, s) && has(b, s)),
+            Call::Join(a, b) => set_of(64, |s| has(a, s) || has(b, s)),
+            Call::TakeAway(a, b) => set_of(64, |s| has(a, s) && !has(b, s)),
+            Call::Has(a, s) => u64::from(has(a, s)),
+            Call::Count(a) => (0..64).filter(|&s| has(a, s)).count() as u64,
+            Call::Full(f) if f > 6 => 0,
+            Call::Full(f) => set_of(settings(f as usize), |_| true),
+            Call::FullRefusal(f) => 3 * u64::from(f > 6),
+            Call::Option(full, k) => set_of(64, |s| has(full, s) && k < 6 && s >> k & 1 == 1),
+            _ => return None,
+        })
+    }
+}
+
+fn condition_has(image: &[u8], condition: u64, setting: u64) -> Three {
+    let image = check(image)?;
+    refuse_if(condition >= image.conditions.len() as u64, 15)?;
+    let set = condition_sets(&image)[condition as usize];
+    Ok([u64::from(has(set, setting)), 0, 0])
+}
+
+fn configured(image: &[u8], setting: u64, out: &mut [u8]) -> Three {
+    let image = check(image)?;
+    refuse_if(setting >= settings(image.header.options), 11)?;
+    let bytes = configure::configure(&image, &condition_sets(&image), setting);
+    refuse_if(out.len() < bytes.len(), 14)?;
+    out[..bytes.len()].copy_from_slice(&bytes);
+    Ok([bytes.len() as u64, 0, 0])
+}
+
+fn plain_run(image: &[u8], budget: u32, numbers: &mut [u8]) -> Three {
+    let image = check(image)?;
+    refuse_at(lowest_choice(&image), 13)?;
+    refuse_if(budget > 100_000, 10)?;
+    refuse_if(numbers.len() != 4 * 16, 12)?;
+    let mut sixteen = to_numbers(numbers);
+    let (ended, steps) = plain::run(&tree::routine(&image), budget, &mut sixteen);
+    numbers.copy_from_slice(&to_bytes(&sixteen));
+    let (outcome, code) = match ended {
+        plain::Ended::Done => (1, 0),
+        plain::Ended::Fault(n) => (2, n),
+        plain::Ended::Out => (3, 0),
+    };
+    Ok([outcome, u64::from(code as u32), u64::from(steps)])
+}
+
+/// `lent` is store, outcomes, codes and steps.
+fn shared_run(image: &[u8], set: u64, budget: u32, lent: &mut [Vec<u8>]) -> Three {
+    let image = check(image)?;
+    let n = settings(image.header.options);
+    refuse_if((n..64).any(|s| has(set, s)), 9)?;
+    refuse_if(budget > 100_000, 10)?;
+    let lengths = [4 * 16, 1, 4, 4].map(|each| each * n as usize);
+    refuse_if((0..4).any(|i| lent[i].len() != lengths[i]), 12)?;
+    let mut store = to_numbers(&lent[0]);
+    let routine = tree::routine(&image);
+    let ended = shared::run(
+        &routine,
+        &condition_sets(&image),
+        n,
+        set,
+        budget,
+        &mut store,
+    );
+    lent[0] = to_bytes(&store);
+    lent[1] = ended.states.iter().map(|&state| outcome(state)).collect();
+    lent[2] = to_bytes(&ended.states.iter().map(|&s| code(s)).collect::<Vec<_>>());
+    lent[3] = ended.steps.iter().flat_map(|n| n.to_le_bytes()).collect();
+    let in_fault = ended.set(|state| matches!(state, State::Fault(_)));
+    let out = ended.set(|state| state == State::Out);
+    Ok([ended.visits, in_fault, out])
+}
+
+fn outcome(state: State) -> u8 {
+    match state {
+        State::Idle => 0,
+        State::Live => 1,
+        State::Fault(_) => 2,
+        State::Out => 3,
+    }
+}
+
+fn code(state: State) -> i32 {
+    match state {
+        State::Fault(n) => n,
+        _ => 0,
+    }
+}
+
+pub fn to_numbers(bytes: &[u8]) -> Vec<i32> {
+    let four = |chunk: &[u8]| i32::from_le_bytes([chunk[0], chunk[1], chunk[2], chunk[3]]);
+    bytes.chunks_exact(4).map(four).collect()
+}
+
+pub fn to_bytes(numbers: &[i32]) -> Vec<u8> {
+    numbers.iter().flat_map(|n| n.to_le_bytes()).collect()
+}
+
+/// The five numbers of an answer (or as many as it has).
+pub fn to_answer(bytes: &[u8]) -> Vec<u64> {
+    let whole = |chunk: &[u8]| {
+        chunk
+            .iter()
+            .rev()
+            .fold(0, |n, &byte| n << 8 | u64::from(byte))
+    };
+    bytes.chunks_exact(8).map(whole).collect()
+}

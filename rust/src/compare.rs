@@ -1,0 +1,141 @@
+//! Sends batches of cases to the bench and compares every byte that comes back.
+
+use crate::agreement::Agreement;
+use crate::call::Case;
+use crate::cases::{random::Random, round};
+use crate::server::{guarded, Server};
+use crate::tally::Tally;
+
+/// Rounds in a batch: enough that the pipe costs little, few enough that a failure is near.
+const ROUNDS: u64 = 64;
+
+/// Why a comparison stopped.
+pub struct Stop(pub String);
+
+impl From<std::io::Error> for Stop {
+    fn from(error: std::io::Error) -> Stop {
+        Stop(format!("rust: the server failed: {error}"))
+    }
+}
+
+pub struct Bench {
+    server: Server,
+    seed: u64,
+    rounds: u64,
+    pub compared: u64,
+    /// How many shared runs were held against plain runs of what configuring wrote.
+    agreed: u64,
+    tally: Tally,
+}
+
+/// For each case every slice after the call, with its guards.
+pub type Replies = Vec<Vec<Vec<u8>>>;
+
+impl Bench {
+    pub fn new(server: Server, seed: u64) -> Bench {
+        Bench {
+            server,
+            seed,
+            rounds: 0,
+            compared: 0,
+            agreed: 0,
+            tally: Tally::default(),
+        }
+    }
+
+    /// Each round has random numbers of its own, so a round does not depend on the rounds before it.
+    pub fn batch(&mut self) -> Result<(), Stop> {
+        let mut cases = Vec::new();
+        let mut agreements = Vec::new();
+        for number in self.rounds..self.rounds + ROUNDS {
+            let mut random = Random::new(self.seed, number);
+            let round = round(&mut random);
+            cases.extend(round.cases);
+            agreements.extend(
+                round
+                    .subject
+                    .map(|subject| Agreement::new(&mut random, &subject)),
+            );
+        }
+        self.rounds += ROUNDS;
+        self.ask(&cases)?;
+        self.agree(&agreements)
+    }
+
+    /// The shared run and the configuring of each setting first, then what is asked of each result.
+    fn agree(&mut self, agreements: &[Agreement]) -> Result<(), Stop> {
+        let first: Vec<Case> = agreements.iter().flat_map(|a| a.cases()).collect();
+        let mut replies = self.ask(&first)?.into_iter();
+        let mut told = Vec::new();
+        for agreement in agreements {
+            let shared_and_configured: Replies = replies.by_ref().take(agreement.calls()).collect();
+            told.push(agreement.told(&shared_and_configured));
+        }
+        let second: Vec<Case> = told.iter().flat_map(|told| told.cases()).collect();
+        let mut replies = self.ask(&second)?.into_iter();
+        for (agreement, told) in agreements.iter().zip(&told) {
+            let second: Replies = replies.by_ref().take(told.calls()).collect();
+            told.agrees(&second)
+                .map_err(|why| self.stop(&agreement.cases()[0], &why))?;
+            self.agreed += 1;
+        }
+        Ok(())
+    }
+
+    /// Compares the replies with what document 01 says, and gives the replies.
+    fn ask(&mut self, cases: &[Case]) -> Result<Replies, Stop> {
+        self.server.send(cases)?;
+        let expected: Vec<Vec<Vec<u8>>> = cases.iter().map(Case::expected).collect();
+        let replies = self.server.receive(cases).map_err(|error| {
+            Stop(format!(
+                "rust: the server failed ({error}) in cases {} to {}, seed {}",
+                self.compared + 1,
+                self.compared + cases.len() as u64,
+                self.seed
+            ))
+        })?;
+        for ((case, expected), reply) in cases.iter().zip(&expected).zip(&replies) {
+            self.compared += 1;
+            for (slice, (expected, reply)) in expected.iter().zip(reply).enumerate() {
+                let expected = guarded(expected, case.guard);
+                if expected != *reply {
+                    return Err(self.stop(
+                        case,
+                        &format!(
+                            "slice {slice} with its guards\n  expected {}\n  came     {}",
+                            hex(&expected),
+                            hex(reply)
+                        ),
+                    ));
+                }
+            }
+            self.tally.add(case, expected);
+        }
+        Ok(replies)
+    }
+
+    fn stop(&self, case: &Case, why: &str) -> Stop {
+        let slices: Vec<String> = case.slices.iter().map(|slice| hex(slice)).collect();
+        Stop(format!(
+            "rust: different, seed {}, case {}: {:x?}\n  lent {}\n{why}",
+            self.seed,
+            self.compared,
+            case.call,
+            slices.join("\n  lent ")
+        ))
+    }
+
+    pub fn end(self) -> Result<String, Stop> {
+        if !self.server.stop()? {
+            return Err(Stop("rust: the server ended badly".into()));
+        }
+        Ok(format!(
+            "{}\nshared runs held against plain runs: {}\nrust: ok, {} cases, seed {}",
+            self.tally, self.agreed, self.compared, self.seed
+        ))
+    }
+}
+
+fn hex(bytes: &[u8]) -> String {
+    bytes.iter().map(|byte| format!("{byte:02x}")).collect()
+}

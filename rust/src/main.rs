@@ -1,0 +1,56 @@
+//! Compares the proved bench with document 01 written once more: `guard-bench-again SEED CASES COMMAND...`, where the
+//! command starts the server that has the bench.
+
+mod agreement;
+#[cfg(test)]
+mod by_hand;
+mod call;
+mod cases;
+mod compare;
+mod paper;
+mod server;
+mod tally;
+
+use compare::{Bench, Stop};
+use server::Server;
+use std::process::ExitCode;
+
+/// Enough for the deepest tree of 1,024 nodes many times over.
+const STACK: usize = 256 << 20;
+
+fn main() -> ExitCode {
+    let words: Vec<String> = std::env::args().skip(1).collect();
+    let said = std::thread::Builder::new()
+        .stack_size(STACK)
+        .spawn(move || run(&words))
+        .map(|thread| thread.join());
+    match said {
+        Ok(Ok(Ok(line))) => {
+            println!("{line}");
+            ExitCode::SUCCESS
+        }
+        Ok(Ok(Err(Stop(why)))) => {
+            println!("{why}");
+            ExitCode::FAILURE
+        }
+        // a panic has said where it was
+        _ => {
+            println!("rust: the comparison itself failed (seed and cases as given)");
+            ExitCode::FAILURE
+        }
+    }
+}
+
+fn run(words: &[String]) -> Result<String, Stop> {
+    let usage = || Stop("guard-bench-again SEED CASES COMMAND...".into());
+    let [seed, wanted, command @ ..] = words else {
+        return Err(usage());
+    };
+    let seed: u64 = seed.parse().map_err(|_| usage())?;
+    let wanted: u64 = wanted.parse().map_err(|_| usage())?;
+    let mut bench = Bench::new(Server::start(command)?, seed);
+    while bench.compared < wanted {
+        bench.batch()?;
+    }
+    bench.end()
+}
