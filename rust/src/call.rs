@@ -3,7 +3,7 @@
 use crate::paper::check::{check, lowest_choice, refuse_at, refuse_if, Refusal};
 use crate::paper::conditions::{condition_sets, has, set_of, settings};
 use crate::paper::shared::State;
-use crate::paper::{configure, plain, shared, tree};
+use crate::paper::{configure, plain, report, shared, tree};
 
 #[derive(Clone, Copy, Debug)]
 pub enum Call {
@@ -12,6 +12,7 @@ pub enum Call {
     Configure { setting: u64 },
     PlainRun { budget: u32 },
     SharedRun { set: u64, budget: u32 },
+    Report,
     Meet(u64, u64),
     Join(u64, u64),
     TakeAway(u64, u64),
@@ -22,7 +23,7 @@ pub enum Call {
     Option(u64, u32),
 }
 
-/// Slices: the image, then out; or the numbers; or store, outcomes, codes and steps; and last the answer. A call of
+/// Slices: the image (of the report its input), then out; or the numbers; or store, outcomes, codes and steps; and last the answer. A call of
 /// the sets has one slice, for its result. Numbers in slices are little-endian.
 #[derive(Clone)]
 pub struct Case {
@@ -59,6 +60,7 @@ impl Case {
             Call::Configure { setting } => configured(image, setting, &mut after[1]),
             Call::PlainRun { budget } => plain_run(image, budget, &mut after[1]),
             Call::SharedRun { set, budget } => shared_run(image, set, budget, &mut after[1..5]),
+            Call::Report => Ok(reported(image, &mut after[1])),
             _ => check(image).map(|image| {
                 let header = image.header;
                 [header.options, header.conditions, header.nodes].map(|n| n as u64)
@@ -140,6 +142,16 @@ fn shared_run(image: &[u8], set: u64, budget: u32, lent: &mut [Vec<u8>]) -> Thre
     let in_fault = ended.set(|state| matches!(state, State::Fault(_)));
     let out = ended.set(|state| state == State::Out);
     Ok([ended.visits, in_fault, out])
+}
+
+/// The length of the text, and 1 where `out` is too short for it: then it stays as it was.
+fn reported(input: &[u8], out: &mut [u8]) -> [u64; 3] {
+    let text = report::text(input);
+    let short = out.len() < text.len();
+    if !short {
+        out[..text.len()].copy_from_slice(text.as_bytes());
+    }
+    [text.len() as u64, u64::from(short), 0]
 }
 
 fn outcome(state: State) -> u8 {

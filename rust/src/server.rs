@@ -102,5 +102,6 @@ fn request(call: Call) -> (u8, u64, u64) {
         Call::Full(f) => (10, u64::from(f), 0),
         Call::FullRefusal(f) => (11, u64::from(f), 0),
         Call::Option(full, k) => (12, full, u64::from(k)),
+        Call::Report => (13, 0, 0),
     }
 }

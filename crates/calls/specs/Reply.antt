@@ -2,13 +2,15 @@
 use Prim.Native.Nat.{ℕ}
 use mathlib.Core.Bool.{Bool, cond}
 use mathlib.Core.List.{List, [], _∷_}
-use lib.Dec.{eqb}
+use lib.Dec.{eqb, ltb}
 use lib.ListN.{length}
 use Rattle.image.specs.declared.accept.Shape.{Shape}
+use Rattle.image.specs.Bytes.{Bytes}
 use Rattle.imp.specs.Numbers.{low32}
 use Rattle.plain.specs.declared.progress.Progress.{Progress}
 use Rattle.shared.specs.declared.Ends.{Ends}
 use Rattle.image.specs.Rows.{Answer, refused, answer}
+use Rattle.lines.specs.Report.{over}
 use Rattle.calls.specs.declared.Reply.{Reply}
 
 abbrev pub values : ℕ → ℕ → ℕ → Reply
@@ -40,6 +42,13 @@ progress-reply p = values (p .outcome) (low32 (p .code)) (p .steps)
 -- the visits, the set in fault, the set out
 abbrev pub ends-reply : Ends → Reply
 ends-reply e = values (e .visits) (e .fault .bits) (e .out .bits)
+
+-- the length of the text, and whether it is longer than the space; and what is left in that
+abbrev pub text-reply : Bytes → Bytes → Reply
+text-reply text out = values (length text) (cond (ltb (length out) (length text)) 1 0) 0
+
+abbrev pub text-left : Bytes → Bytes → Bytes
+text-left text out = cond (ltb (length out) (length text)) out (over text out)
 
 -- a reply takes all of the space that a caller lends for it, or none
 unfoldable pub filled : Reply → List ℕ → List ℕ

@@ -6,9 +6,10 @@ ghost use Rattle.image.specs.Rows.{refused, judge, check-rows, written};
 ghost use Rattle.image.specs.Check.{shape-of};
 ghost use Rattle.image.specs.Sets.{in-condition, condition-rows};
 ghost use Rattle.configure.specs.Configured.{configured, configure-rows, over};
-ghost use Rattle.calls.specs.Reply.{reply, no-values, shape-reply, member-reply, length-reply, progress-reply, ends-reply, filled};
+ghost use Rattle.calls.specs.Reply.{reply, no-values, shape-reply, member-reply, length-reply, progress-reply, ends-reply, text-reply, text-left, filled};
 ghost use Rattle.calls.specs.Shared.{EndedAll, AnsweredAll};
 ghost use Rattle.shared.specs.Lent.{tally};
+ghost use Rattle.lines.specs.Text.{text};
 ghost use Rattle.plain.specs.PlainRun.{meant, progress-of, plain-rows};
 use configure::Configured;
 use configure::configure;
@@ -20,6 +21,8 @@ use image::refusals::Refusal;
 use image::refusals::number;
 use image::refusals::place;
 use imp::bits;
+use lines::answer::Report;
+use lines::report;
 use plain::PlainRun;
 use plain::plain_run;
 use plain::progress::Progress;
@@ -154,6 +157,29 @@ fn ended_all(
     }
 }
 
+// The length of the text, and 1 where the space was too short for it.
+fn reported(input: &[u8], out: &mut [u8]) -> Reply
+    ensures { λ y. ⌜ y ≡ text-reply (text (now (input .entry))) (now (out .entry)) ⌝ }
+    ensures { λ _. ⌜ now (out .exit) ≡ text-left (text (now (input .entry))) (now (out .entry)) ⌝ }
+{
+    match report(input, out) {
+        Report::Text(n) => Reply {
+            number: 0,
+            place: 0,
+            first: n,
+            second: 0,
+            third: 0,
+        },
+        Report::Short(n) => Reply {
+            number: 0,
+            place: 0,
+            first: n,
+            second: 1,
+            third: 0,
+        },
+    }
+}
+
 // The reply's five numbers, where there is space for just these.
 fn fill(r: Reply, answer: &mut [usize])
     ensures { λ _. ⌜ now (answer .exit) ≡ filled r (now (answer .entry)) ⌝ }
@@ -220,5 +246,14 @@ pub extern "C" fn bench_shared_run(
     ensures { λ _. ⌜ AnsweredAll (now (image .entry)) set budget (now (store .entry)) (tally (now (outcomes .entry)) (now (codes .entry)) (now (steps .entry))) (now (store .exit)) (tally (now (outcomes .exit)) (now (codes .exit)) (now (steps .exit))) (now (answer .entry)) (now (answer .exit)) ⌝ }
 {
     let r = ended_all(image, set, budget, store, outcomes, codes, steps);
+    fill(r, answer);
+}
+
+#[no_mangle]
+pub extern "C" fn bench_report(input: &[u8], out: &mut [u8], answer: &mut [usize])
+    ensures { λ _. ⌜ now (answer .exit) ≡ filled (text-reply (text (now (input .entry))) (now (out .entry))) (now (answer .entry)) ⌝ }
+    ensures { λ _. ⌜ now (out .exit) ≡ text-left (text (now (input .entry))) (now (out .entry)) ⌝ }
+{
+    let r = reported(input, out);
     fill(r, answer);
 }

@@ -3,6 +3,7 @@
 use super::random::Random;
 use crate::call::{to_answer, to_bytes, to_numbers, Call, Case};
 use crate::paper::image::Header;
+use crate::paper::report::text;
 
 /// An image, and its header (as it was before damage, where it is refused).
 pub struct Subject {
@@ -157,6 +158,29 @@ pub fn shared_running(random: &mut Random, subject: &Subject) -> Case {
         ]
     });
     near_the_end(random, case)
+}
+
+/// A report on the subject: now and then its input is cut, and the space is too short for the text.
+pub fn reporting(random: &mut Random, subject: &Subject) -> Case {
+    let mut input = any_set(random, subject).to_be_bytes().to_vec();
+    input.extend(any_budget(random, subject).to_be_bytes());
+    input.extend(&subject.image);
+    if random.once_in(12) {
+        input.truncate(random.below(24));
+    }
+    let length = text(&input).len();
+    let space = match random.below(6) {
+        0 => length - 1,
+        1 => random.below(length),
+        2 => length + random.below(40),
+        3 => 2112,
+        _ => length,
+    };
+    Case {
+        call: Call::Report,
+        guard: random.whole() as u8,
+        slices: vec![input, random.bytes(space), answer(random)],
+    }
 }
 
 /// Now and then a run gets a budget that ends with it: as many steps as a setting takes, one less or one more,

@@ -53,7 +53,7 @@ pub fn round(random: &mut Random) -> Round {
 }
 
 fn call(random: &mut Random, subject: &Subject) -> Case {
-    match random.below(9) {
+    match random.below(10) {
         0 => lent::asking_condition(random, subject),
         1 => {
             let setting = lent::any_setting(random, subject);
@@ -61,6 +61,7 @@ fn call(random: &mut Random, subject: &Subject) -> Case {
             lent::configuring(random, subject, setting, space)
         }
         2 | 3 => lent::plain_running(random, subject),
+        4 => lent::reporting(random, subject),
         _ => lent::shared_running(random, subject),
     }
 }

@@ -32,7 +32,7 @@ impl Writer {
     /// Adds the low `width` bits of `field`.
     pub fn put(&mut self, field: u64, width: usize) {
         for weight in (0..width).rev() {
-            if self.at.is_multiple_of(8) {
+            if self.at % 8 == 0 {
                 self.bytes.push(0);
             }
             let bit = (field >> weight & 1) as u8;

@@ -70,8 +70,9 @@ fn condition_stands(condition: &Condition, at: usize, options: usize) -> bool {
 
 /// Test 6 of the node numbered `at`.
 fn node_stands(node: &Node, at: usize, conditions: usize) -> bool {
-    let Some(kind) = kind(node.kind) else {
-        return false;
+    let kind = match kind(node.kind) {
+        Some(kind) => kind,
+        None => return false,
     };
     let variable = if kind.variable {
         node.variable <= 15
@@ -105,7 +106,8 @@ fn children(node: &Node) -> Vec<(usize, Class)> {
 
 /// Test 7: each child of the class its field asks for, and the root a statement.
 fn classes_fit(nodes: &[Node], at: usize) -> bool {
-    let is = |node: usize, class| kind(nodes[node].kind).is_some_and(|kind| kind.class == class);
+    let is =
+        |node: usize, class| matches!(kind(nodes[node].kind), Some(kind) if kind.class == class);
     let root = at + 1 == nodes.len();
     children(&nodes[at])
         .into_iter()

@@ -60,10 +60,10 @@ pub fn kind(number: usize) -> Option<Kind> {
 
 /// Whether a node of this kind is one of the three choices.
 pub fn is_choice(number: usize) -> bool {
-    kind(number).is_some_and(|kind| kind.fields[0] == Field::Condition)
+    matches!(kind(number), Some(kind) if kind.fields[0] == Field::Condition)
 }
 
 /// Whether the field at this place (0 for a, 1 for b, 2 for c) of a node of this kind names a node.
 pub fn names_node(number: usize, place: usize) -> bool {
-    kind(number).is_some_and(|kind| matches!(kind.fields[place], Field::Node(_)))
+    matches!(kind(number), Some(kind) if matches!(kind.fields[place], Field::Node(_)))
 }

@@ -8,5 +8,6 @@ pub mod evaluate;
 pub mod image;
 pub mod kinds;
 pub mod plain;
+pub mod report;
 pub mod shared;
 pub mod tree;
