@@ -2,7 +2,6 @@
 ghost use Prim.Native.Nat.{_<_};
 ghost use lib.ListN.{length};
 
-mod all; // all.rt: every setting of a shared run
 mod alone; // alone.rt: one setting by itself
 mod compare; // compare.rt: one routine
 mod input; // input.rt: numbers in the input
@@ -10,9 +9,8 @@ mod numbers; // numbers.rt: a setting's sixteen numbers
 mod tell; // tell.rt: a line for each routine
 
 use compare::compare;
-use input::eight;
+use image::records::number_at;
 use input::four;
-use input::two;
 use sets::Set;
 use tell::tell;
 use tell::tell_cut_short;
@@ -29,14 +27,14 @@ fn routine(input: &[u8], at: usize, k: u64) -> usize
         return n;
     }
     let start = at + 14;
-    let size = two(input, at) as usize;
+    let size = number_at(input, at, 2) as usize;
     if n - start < size {
         tell_cut_short(k);
         return n;
     }
     let end = start + size;
     let set = Set {
-        bits: eight(input, at + 2),
+        bits: number_at(input, at + 2, 8),
     };
     let verdict = compare(&input[start..end], set, four(input, at + 10));
     tell(k, verdict);

@@ -4,8 +4,8 @@ use Prim.Native.Nat.{_-_, _≤_}
 use native.Mathlib.Omega.{arith}
 use lib.ListN.{length}
 use borrow.Author.Needs.{needs}
-use Rattle.acceptance.proofs.all.fill_all.Statement.{statement}
-use Rattle.acceptance.proofs.all.fill_all.Tie as tie
+use Rattle.acceptance.proofs.compare.fill_all.Statement.{statement}
+use Rattle.acceptance.proofs.compare.fill_all.Tie as tie
 
 abbrev Inv-loop : tie.InvT-loop
 Inv-loop n store₀ s₀ store s = (s ≤ n) × (length store ≡ length store₀)

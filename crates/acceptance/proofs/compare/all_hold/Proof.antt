@@ -4,8 +4,8 @@ use Prim.Native.Nat.{_-_, _*_, _≤_}
 use native.Mathlib.Omega.{arith}
 use lib.ListN.{length}
 use borrow.Author.Needs.{needs}
-use Rattle.acceptance.proofs.all.all_hold.Statement.{statement}
-use Rattle.acceptance.proofs.all.all_hold.Tie as tie
+use Rattle.acceptance.proofs.compare.all_hold.Statement.{statement}
+use Rattle.acceptance.proofs.compare.all_hold.Tie as tie
 
 abbrev Inv-loop : tie.InvT-loop
 Inv-loop image set budget visits store outcomes codes steps sum₀ good₀ s₀ s-end sum good s = (s ≤ s-end) × (s-end ≡ length outcomes) × (sum ≤ s * 4294967296)
