@@ -8,10 +8,10 @@ use lib.IntN.{ℤ, pos}
 use lib.ListN.{length, getD, take}
 use Rattle.sets.specs.Member.{bit, has}
 use Rattle.imp.specs.State.{State, outcome-number, code, untouched}
-use Rattle.imp.specs.Theorem.Bounds.{total}
+use Rattle.imp.specs.Shared.{total}
 use Rattle.image.specs.Bytes.{Bytes}
 use Rattle.image.specs.Sets.{settings}
-use Rattle.image.specs.Theorem.Accepted.{Accepted}
+use Rattle.image.specs.Accepted.{Accepted}
 use Rattle.configure.specs.declared.Configured.{Configured}
 use Rattle.configure.specs.declared.Configured.the-variants.{Length}
 use Rattle.configure.specs.Configured.{configure-rows, Configures}

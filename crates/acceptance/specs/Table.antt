@@ -17,7 +17,7 @@ use Rattle.imp.specs.Shared as Sharing
 use Rattle.imp.specs.Shared.{valueIn, any, for, visited, where-true, where-false, begun, turns, start, beyond}
 use Rattle.image.specs.declared.accept.Shape.{Shape}
 use Rattle.image.specs.declared.accept.Checked.{Checked}
-use Rattle.image.specs.Bytes.{Bytes, number-at}
+use Rattle.image.specs.Bytes.{Bytes, number-at, over}
 use Rattle.image.specs.Check.{answer-of, shape-of}
 use Rattle.image.specs.Records.{nodes-from, header, condition-record, node}
 use Rattle.image.specs.Layout.{kinds, layout, names-node, is-choice, condition-kinds, condition-layout, field-fits}
@@ -27,7 +27,7 @@ use Rattle.image.specs.Tree.{condition-kind, condition-reading, condition, kind
 use Rattle.image.specs.Term.{size, name, node-word, words, bytes-of, all-bytes, header-word, term-image}
 use Rattle.image.specs.Encode.{termᵃ, termˢ, plain-image}
 use Rattle.configure.specs.declared.Configured.{Configured}
-use Rattle.configure.specs.Configured.{configured, space-rows, configure-rows, configure-answer, over, Configures}
+use Rattle.configure.specs.Configured.{configured, space-rows, configure-rows, configure-answer, Configures}
 use Rattle.configure.specs.Theorem.Vectors.{H, H-1}
 use Rattle.plain.specs.declared.progress.Progress.{Progress}
 use Rattle.plain.specs.declared.PlainRun.{PlainRun}

@@ -5,12 +5,11 @@ use mathlib.Core.List.{List, [], _∷_}
 use lib.Dec.{eqb, ltb}
 use lib.ListN.{length}
 use Rattle.image.specs.declared.accept.Shape.{Shape}
-use Rattle.image.specs.Bytes.{Bytes}
+use Rattle.image.specs.Bytes.{Bytes, over}
 use Rattle.imp.specs.Numbers.{low32}
 use Rattle.plain.specs.declared.progress.Progress.{Progress}
 use Rattle.shared.specs.declared.Ends.{Ends}
 use Rattle.image.specs.Rows.{Answer, refused, answer}
-use Rattle.lines.specs.Report.{over}
 use Rattle.calls.specs.declared.Reply.{Reply}
 
 abbrev pub values : ℕ → ℕ → ℕ → Reply

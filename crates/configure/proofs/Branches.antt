@@ -11,8 +11,8 @@ use Rattle.image.specs.Layout.{names-node}
 use Rattle.image.specs.Term.{term, Branch, size, branch-size, name, node-word, words, branch-words, bytes-of, all-bytes}
 use Rattle.image.specs.Theorem.Words.{length-all}
 use Rattle.image.specs.Theorem.Encoded.{length-branch, size-some}
-use Rattle.configure.specs.Term.{hang, term-at}
-use Rattle.configure.specs.Writing.{Writing, Wrote, hung, SlotWriting, SlotWrote, named}
+use Rattle.configure.specs.Inner.Term.{hang, term-at}
+use Rattle.configure.specs.Inner.Writing.{Writing, Wrote, hung, SlotWriting, SlotWrote, named}
 use Rattle.configure.proofs.Bytes.{sets-app, bytes-app}
 
 -- ---- bytes

@@ -16,11 +16,12 @@ use Rattle.image.specs.Records.{header, node}
 use Rattle.image.specs.Layout.{kinds, layout, a-digit, b-digit, c-digit, names-node, is-choice}
 use Rattle.image.specs.Rows.{node-fits}
 use Rattle.image.specs.Term.{term, Branch, size, branch-size, name, node-word, bytes-of}
-use Rattle.image.specs.Theorem.Lower.{fitted, Lower, lower}
+use Rattle.image.specs.Theorem.Lower.{fitted, lower}
+use Rattle.image.specs.Inner.Lower.{Lower}
 use Rattle.image.specs.Theorem.Choosing.{choice-condition, choice-b, choice-c, chosen-is}
 use Rattle.image.specs.Theorem.Listed.{by-test}
-use Rattle.configure.specs.Term.{term-at}
-use Rattle.configure.specs.Writing.{Writing, Wrote, hung, SlotWriting, SlotWrote, own-word, Ended}
+use Rattle.configure.specs.Inner.Term.{term-at}
+use Rattle.configure.specs.Inner.Writing.{Writing, Wrote, hung, SlotWriting, SlotWrote, own-word, Ended}
 use Rattle.configure.specs.Theorem.Terms.{choice-term, node-term}
 use Rattle.configure.proofs.Branches.{node-bytes, node-next, hung-name, hung-some}
 

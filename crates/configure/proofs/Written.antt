@@ -9,13 +9,14 @@ use borrow.Author.Tests.{lt-ltb, le-ltb}
 use Rattle.image.specs.Records.{header}
 use Rattle.image.specs.Rows.{answer, judge, written}
 use Rattle.image.specs.Term.{Term, size, words, bytes-of, all-bytes, header-word, term-image}
-use Rattle.image.specs.Theorem.Accepted.{Accepted}
+use Rattle.image.specs.Accepted.{Accepted}
 use Rattle.image.specs.Theorem.Words.{length-bytes}
 use Rattle.configure.specs.declared.Configured.the-variants.{Length, Refused}
 use Rattle.image.specs.declared.refusals.Refusal.the-variants.{SpaceShort}
-use Rattle.configure.specs.Term.{term-at}
-use Rattle.configure.specs.Writing.{Wrote}
-use Rattle.configure.specs.Configured.{configured, over, space-rows, Configures}
+use Rattle.configure.specs.Inner.Term.{term-at}
+use Rattle.configure.specs.Inner.Writing.{Wrote}
+use Rattle.configure.specs.Configured.{configured, space-rows, Configures}
+use Rattle.image.specs.Bytes.{over}
 use Rattle.configure.specs.Theorem.Result.{image-is, length-is}
 use Rattle.configure.proofs.Bytes.{sets-app}
 

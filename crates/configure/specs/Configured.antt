@@ -4,9 +4,9 @@ use Prim.Native.Nat.{ℕ}
 use mathlib.Core.Bool.{not}
 use mathlib.Core.List.{List, [], _∷_, _++_}
 use lib.Dec.{ltb}
-use lib.ListN.{length, drop}
+use lib.ListN.{length}
 use Rattle.imp.specs.Configure.{configure}
-use Rattle.image.specs.Bytes.{Bytes}
+use Rattle.image.specs.Bytes.{Bytes, over}
 use Rattle.image.specs.Refusals.{number-of, place-of}
 use Rattle.image.specs.Rows.{Row, row, Answer, refused, answer, judge, written, check-rows}
 use Rattle.image.specs.Sets.{settings}
@@ -31,10 +31,6 @@ configure-rows l s space = check-rows l ++ (row 11 (not (ltb s (settings l))) �
 abbrev pub configure-answer : Configured → Answer ℕ
 configure-answer (Length n) = answer n
 configure-answer (Refused r) = refused (number-of r) (place-of r)
-
--- "Bytes beyond it stay as they were."
-unfoldable pub over : Bytes → Bytes → Bytes
-over l out = l ++ drop (length l) out
 
 -- what configuring answers and what it leaves in `out`, where `rows` are still to be tested
 pub record Configures (rows : List Row) (l : Bytes) (s : ℕ) (out out′ : Bytes) (r : Configured) : Type 0 where

@@ -2,7 +2,7 @@
 ghost use mathlib.Core.Path.{_≡_};
 ghost use lib.ListN.{length};
 ghost use Rattle.image.specs.Records.{header};
-ghost use Rattle.image.specs.Ready.{Ready};
+ghost use Rattle.image.specs.Inner.Ready.{Ready};
 ghost use Rattle.configure.specs.Configured.{space-rows, configure-rows, Configures};
 
 mod sizes; // sizes.rt: how long the configured image is

@@ -7,7 +7,7 @@ ghost use lib.ListN.{length};
 ghost use lib.Seq.{sets};
 ghost use Rattle.image.specs.Layout.{names-node};
 ghost use Rattle.image.specs.Term.{node-word, bytes-of};
-ghost use Rattle.configure.specs.Writing.{Writing, Wrote, hung, SlotWriting, SlotWrote, Fields, named, own-word, Ended};
+ghost use Rattle.configure.specs.Inner.Writing.{Writing, Wrote, hung, SlotWriting, SlotWrote, Fields, named, own-word, Ended};
 use image::fits::layout;
 use image::fits::names_node;
 use image::records::Node;

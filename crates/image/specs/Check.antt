@@ -1,6 +1,4 @@
 -- What the check answers, in document 01's terms: "The check answers F, C and P", or a refusal's number and place.
-use mathlib.Core.Path.{_≡_}
-use Prim.Native.Nat.{_≤_, _<_}
 use Rattle.image.specs.declared.accept.Shape.{Shape}
 use Rattle.image.specs.declared.accept.Checked.{Checked}
 use Rattle.image.specs.declared.accept.Checked.the-variants.{Good, Refused}
@@ -8,7 +6,6 @@ use Rattle.image.specs.Bytes.{Bytes}
 use Rattle.image.specs.Records.{header}
 use Rattle.image.specs.Refusals.{number-of, place-of}
 use Rattle.image.specs.Rows.{Answer, refused, answer}
-use Rattle.image.specs.Whole.{Whole}
 
 abbrev pub answer-of : Checked → Answer Shape
 answer-of (Good shape) = answer shape
@@ -16,10 +13,3 @@ answer-of (Refused r) = refused (number-of r) (place-of r)
 
 unfoldable pub shape-of : Bytes → Shape
 shape-of l = record { options = header l .options; conditions = header l .conditions; nodes = header l .nodes }
-
--- what tests 1 to 4 leave known: the shape is the header's, the counts are in range, and the image is as long as they say
-pub record Headed (l : Bytes) (shape : Shape) : Type 0 where
-  pub shape-is : shape ≡ shape-of l
-  pub whole : Whole l (shape .conditions) (shape .nodes)
-  pub some-node : 0 < shape .nodes
-  pub few-nodes : shape .nodes ≤ 1024

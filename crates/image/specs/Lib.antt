@@ -4,12 +4,12 @@ pub mod Records
 pub mod Layout
 pub mod Refusals
 pub mod Rows
-pub mod Whole
 pub mod Check
+pub mod Accepted
 pub mod Tree
 pub mod Listing
 pub mod Sets
-pub mod Ready
 pub mod Term
 pub mod Encode
+pub mod Inner
 pub mod Theorem

@@ -1,7 +1,8 @@
 -- The table of refusals, rows 1 to 8, and how a table is read: "A number is given exactly when its condition holds and no earlier test fails".
 use Prim.Native.Nat.{ℕ, zero, suc, _+_, _-_, _*_, _/_, _%_}
-use mathlib.Core.Bool.{Bool, true, not, _&&_, _||_, cond}
-use mathlib.Core.List.{List, [], _∷_}
+use mathlib.Core.Path.{_≡_}
+use mathlib.Core.Bool.{Bool, true, false, not, _&&_, _||_, cond}
+use mathlib.Core.List.{List, [], _∷_, _++_}
 use lib.Dec.{eqb, ltb}
 use lib.ListN.{length}
 use Rattle.image.specs.declared.records.Header.{Header}
@@ -33,6 +34,22 @@ judge (r ∷ rows) x = cond (r .fails) (refused (r .number) (r .place)) (judge r
 unfoldable pub written : {A : Type 0} → List Row → A → A → A
 written [] new old = new
 written (r ∷ rows) new old = cond (r .fails) old (written rows new old)
+
+-- no row fails
+abbrev pub NoneFails : List Row → Type 0
+NoneFails [] = Unit {0}
+NoneFails (r ∷ rows) = (r .fails ≡ false) × NoneFails rows
+
+-- the number n and the place p are those of a row that fails, and no earlier row does
+pub record Given (rows : List Row) (n p : ℕ) : Type 0 where
+  pub earlier : List Row
+  pub this : Row
+  pub later : List Row
+  pub in-order : rows ≡ earlier ++ (this ∷ later)
+  pub none-earlier : NoneFails earlier
+  pub fails : this .fails ≡ true
+  pub number-is : this .number ≡ n
+  pub place-is : this .place ≡ p
 
 -- the lowest k below n that is bad, and n where there is none
 unfoldable pub lowest-from : ℕ → ℕ → (ℕ → Bool) → ℕ

@@ -7,7 +7,7 @@ ghost use lib.ListN.{length};
 ghost use Rattle.image.specs.Records.{header, node};
 ghost use Rattle.image.specs.Layout.{layout, condition-layout, field-fits, names-node};
 ghost use Rattle.image.specs.Rows.{condition-fits, slot-fits, node-fits, class, slot-classed, classed};
-ghost use Rattle.image.specs.Whole.{Whole};
+ghost use Rattle.image.specs.Inner.Whole.{Whole};
 use super::records::ConditionRecord;
 use super::records::Node;
 use super::records::node_at;

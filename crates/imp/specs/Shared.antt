@@ -1,5 +1,6 @@
 -- The shared run over a set of settings: chapter 5 of the thesis as a function, with the pick and the budget (document 01, "Shared run").
-use Prim.Native.Nat.{ℕ, zero, suc, _^_}
+use mathlib.Core.Path.{_≡_}
+use Prim.Native.Nat.{ℕ, zero, suc, _+_, _^_, _<_}
 use mathlib.Core.Bool.{Bool, true, false, not, _&&_, _||_, cond}
 use lib.Dec.{leb}
 use lib.IntN.{ℤ, pos, _+ℤ_}
@@ -39,9 +40,21 @@ unfoldable pub any : ℕ → Settings → Bool
 any zero S = false
 any (suc n) S = S n || any n S
 
+-- the settings of C are below N
+abbrev pub Below : ℕ → Settings → Type 0
+Below N C = (s : ℕ) → C s ≡ true → s < N
+
 pub record Shared : Type 0 where
   pub at : ℕ → State
   pub visits : ℕ
+
+-- a setting's steps, and the sum of f below n: the visits are "at most their sum"
+abbrev pub steps-at : Shared → ℕ → ℕ
+steps-at Σ s = (Σ .at s) .steps
+
+unfoldable pub total : ℕ → (ℕ → ℕ) → ℕ
+total zero f = 0
+total (suc n) f = f n + total n f
 
 -- each setting of S is changed by f, and no other
 unfoldable pub for : Settings → (ℕ → State → State) → Shared → Shared

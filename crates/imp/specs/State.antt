@@ -49,6 +49,9 @@ pub record State : Type 0 where
   pub outcome : Outcome
   pub steps : ℕ
 
+abbrev pub state : Numbers → Outcome → ℕ → State
+state S E k = record { numbers = S; outcome = E; steps = k }
+
 -- f or g of x, by a test: only the one chosen is worked out
 abbrev pub branch : {A : Type 0} → Bool → (A → A) → (A → A) → A → A
 branch true f g x = f x

@@ -6,7 +6,7 @@ use native.Mathlib.Nat.{add-zero}
 use native.Mathlib.Omega.{arith}
 use lib.ListN.{length, getD, set, take, drop, length-append, length-take}
 use lib.Seq.{sets, sets-eq, length-sets, take-suc, take-append-seam}
-use Rattle.lines.specs.Puts.{Puts}
+use Rattle.lines.specs.Inner.Puts.{Puts}
 
 sets-app : (u v l : List ℕ) (i : ℕ) → sets l i (u ++ v) ≡ sets (sets l i u) (i + length u) v
 sets-app [] v l i = ap (λ k. sets l k v) (sym (add-zero i))

@@ -12,7 +12,7 @@ use Rattle.imp.specs.State.{outcome-number, code}
 use Rattle.plain.specs.PlainRun.{progress-of}
 use Rattle.shared.specs.Lent.{progress}
 use Rattle.shared.specs.SharedRun.{each, tally-of}
-use Rattle.lines.specs.Telling.{tallied}
+use Rattle.lines.specs.Inner.Telling.{tallied}
 use Rattle.lines.specs.Text.{line, lines}
 
 length-each : {A : Type 0} (n : ℕ) (f : ℕ → A) → length (each n f) ≡ n

@@ -16,7 +16,7 @@ use Rattle.shared.specs.declared.SharedRun.{SharedRun}
 use Rattle.shared.specs.declared.SharedRun.the-variants.{Ended, Refused}
 use Rattle.shared.specs.Lent.{Tally}
 use Rattle.shared.specs.SharedRun.{ends-of, tally-of, shared-rows, SharedRuns}
-use Rattle.lines.specs.Telling.{tallied, Blank}
+use Rattle.lines.specs.Inner.Telling.{tallied, Blank}
 use Rattle.lines.specs.Text.{last-line, refusal-line, zeros, blank, run-of, run-rows, told, run-text}
 use Rattle.lines.proofs.Tallies.{tallied-are}
 use Rattle.lines.proofs.Tables.{answered-is, judge-passes, written-passes, judge-refuses}

@@ -2,7 +2,6 @@
 pub mod Decimal
 pub mod Words
 pub mod Text
-pub mod Puts
-pub mod Telling
 pub mod Report
+pub mod Inner
 pub mod Theorem

@@ -1,16 +1,11 @@
 -- What the report answers and what it leaves in `out`: its text if that fits, else only how long it is.
 use mathlib.Core.Path.{_≡_}
 use mathlib.Core.Bool.{cond}
-use mathlib.Core.List.{_++_}
 use lib.Dec.{ltb}
-use lib.ListN.{length, drop}
-use Rattle.image.specs.Bytes.{Bytes}
+use lib.ListN.{length}
+use Rattle.image.specs.Bytes.{Bytes, over}
 use Rattle.lines.specs.declared.answer.Report.{Report}
 use Rattle.lines.specs.declared.answer.Report.the-variants.{Text, Short}
-
--- a text from the start of `out`, "Bytes beyond it stay as they were"
-unfoldable pub over : Bytes → Bytes → Bytes
-over l out = l ++ drop (length l) out
 
 -- of the text that is meant
 pub record Reports (text out out′ : Bytes) (r : Report) : Type 0 where

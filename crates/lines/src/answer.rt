@@ -1,7 +1,7 @@
 // A text written as it is, and handed over: all of it where it fits, else only its length.
 ghost use Prim.Native.Nat.{_+_, _≤_};
 ghost use lib.ListN.{length, take};
-ghost use Rattle.lines.specs.Puts.{Puts};
+ghost use Rattle.lines.specs.Inner.Puts.{Puts};
 ghost use Rattle.lines.specs.Report.{Reports};
 
 // How long the text is: all of it is in `out`, or `out` is too short and as it was.

@@ -3,7 +3,7 @@ ghost use mathlib.Core.Path.{_≡_};
 ghost use Prim.Native.Nat.{_+_, _≤_, _<_};
 ghost use lib.ListN.{length};
 ghost use Rattle.lines.specs.Decimal.{decimal, signed-decimal};
-ghost use Rattle.lines.specs.Puts.{Puts};
+ghost use Rattle.lines.specs.Inner.Puts.{Puts};
 use imp::bits;
 
 // The digit of d, which is below ten.

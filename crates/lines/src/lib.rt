@@ -4,9 +4,9 @@ ghost use lib.ListN.{length};
 ghost use Rattle.image.specs.Sets.{settings};
 ghost use Rattle.shared.specs.Lent.{tally};
 ghost use Rattle.lines.specs.Text.{run-text, text};
-ghost use Rattle.lines.specs.Puts.{Puts};
+ghost use Rattle.lines.specs.Inner.Puts.{Puts};
 ghost use Rattle.lines.specs.Report.{Reports};
-ghost use Rattle.lines.specs.Telling.{Blank, Good};
+ghost use Rattle.lines.specs.Inner.Telling.{Blank, Good};
 
 pub mod answer; // answer.rt: what is answered, and a text handed over
 mod decimal; // decimal.rt: numbers

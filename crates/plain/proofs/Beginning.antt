@@ -11,8 +11,8 @@ use Rattle.imp.specs.State.{Numbers, State, outcome-number, code, live, in-faul
 use Rattle.imp.specs.Plain.{begun, turns, run}
 use Rattle.imp.specs.Theorem.Begin.{begun-yes, begun-no, live-entered, enter-dead, enter-steps, ready-lt}
 use Rattle.plain.specs.declared.progress.Progress.{Progress}
-use Rattle.plain.specs.Progress.{outcome-from, state-of, Proper}
-use Rattle.plain.specs.Running.{Began}
+use Rattle.plain.specs.Inner.Progress.{outcome-from, state-of, Proper}
+use Rattle.plain.specs.Inner.Running.{Began}
 
 -- the outcome's number tells what is live, and what is in fault
 pub live-is : (o : ℕ) (c : ℤ) → live (outcome-from o c) ≡ eqb o 1

@@ -23,13 +23,13 @@ use Rattle.image.specs.Records.{header, node}
 use Rattle.image.specs.Layout.{kinds, layout, class-digit, a-digit, b-digit, c-digit, names-node, is-choice}
 use Rattle.image.specs.Rows.{node-fits, class, classed}
 use Rattle.image.specs.Tree.{condition, read}
-use Rattle.image.specs.Theorem.Accepted.{Accepted}
+use Rattle.image.specs.Accepted.{Accepted}
 use Rattle.image.specs.Theorem.Choosing.{choice-condition, chosen-is}
 use Rattle.image.specs.Theorem.Held.{Child, child-a, child-b, child-c, variable-below}
 use Rattle.image.specs.Theorem.Kinds.{kind-cases}
 use Rattle.image.specs.Theorem.Lower.{both}
 use Rattle.image.specs.Theorem.Reading.{number-at, variable-at, sum-at, pick-at, choiceᵃ-at, falseᵇ-at, trueᵇ-at, notᵇ-at, andᵇ-at, less-at, choiceᵇ-at}
-use Rattle.plain.specs.Evaluating.{Evaluating}
+use Rattle.plain.specs.Inner.Evaluating.{Evaluating}
 
 -- a kind of class 1 is 0 to 4, one of class 2 is 8 to 13, one of class 3 is 16 to 23
 abbrev in-class : ℕ → Bool

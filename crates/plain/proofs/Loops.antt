@@ -19,8 +19,8 @@ use Rattle.image.specs.Bytes.{Bytes}
 use Rattle.image.specs.Tree.{read}
 use Rattle.image.specs.Theorem.Lower.{both}
 use Rattle.plain.specs.declared.progress.Progress.{Progress}
-use Rattle.plain.specs.Progress.{state-of, Proper}
-use Rattle.plain.specs.Running.{Began, Ran, turning}
+use Rattle.plain.specs.Inner.Progress.{state-of, Proper}
+use Rattle.plain.specs.Inner.Running.{Began, Ran, turning}
 use Rattle.plain.proofs.Beginning.{ready-is, charged}
 use Rattle.plain.proofs.Statements.{does}
 

@@ -17,13 +17,14 @@ use Rattle.image.specs.Layout.{is-choice}
 use Rattle.image.specs.Rows.{Row, refused, answer, judge, written, lowest, check-rows}
 use Rattle.image.specs.Check.{shape-of}
 use Rattle.image.specs.Tree.{read, routine}
-use Rattle.image.specs.Theorem.Accepted.{Accepted, accepts}
+use Rattle.image.specs.Accepted.{Accepted}
+use Rattle.image.specs.Theorem.Accepted.{accepts}
 use Rattle.image.specs.Theorem.Then.{judge-then, judge-stops, written-then, written-stops}
 use Rattle.plain.specs.declared.progress.Progress.{Progress}
 use Rattle.plain.specs.declared.PlainRun.{PlainRun}
 use Rattle.plain.specs.declared.PlainRun.the-variants.{Ended, Refused}
-use Rattle.plain.specs.Progress.{outcome-from, state-of, Proper}
-use Rattle.plain.specs.Running.{Ran}
+use Rattle.plain.specs.Inner.Progress.{outcome-from, state-of, Proper}
+use Rattle.plain.specs.Inner.Running.{Ran}
 use Rattle.plain.specs.PlainRun.{meant, progress-of, lent-rows, plain-rows, Runs}
 
 -- ---- tests 10 and 12, and the run

@@ -25,9 +25,9 @@ use Rattle.image.specs.Tree.{condition, read}
 use Rattle.image.specs.Theorem.Held.{variable-below}
 use Rattle.image.specs.Theorem.Reading.{skip-at, assign-at, sequence-at, if-at, while-at, throw-at, try-at, choice-at}
 use Rattle.plain.specs.declared.progress.Progress.{Progress}
-use Rattle.plain.specs.Evaluating.{Evaluating}
-use Rattle.plain.specs.Progress.{outcome-from, state-of, Proper}
-use Rattle.plain.specs.Running.{Running, Began, Ran, turning}
+use Rattle.plain.specs.Inner.Evaluating.{Evaluating}
+use Rattle.plain.specs.Inner.Progress.{outcome-from, state-of, Proper}
+use Rattle.plain.specs.Inner.Running.{Running, Began, Ran, turning}
 use Rattle.plain.proofs.Beginning.{acts, fault-is, proper-done}
 use Rattle.plain.proofs.Evaluation.{At, of-side, is-kind, in-a, in-b, in-c, chosen}
 

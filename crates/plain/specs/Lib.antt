@@ -1,6 +1,4 @@
 -- What the run of one setting asks for and leaves.
-pub mod Evaluating
-pub mod Progress
-pub mod Running
 pub mod PlainRun
+pub mod Inner
 pub mod Theorem

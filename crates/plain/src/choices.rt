@@ -3,7 +3,7 @@ ghost use mathlib.Core.Path.{_≡_};
 ghost use Rattle.image.specs.Layout.{is-choice};
 ghost use Rattle.image.specs.Records.{node};
 ghost use Rattle.image.specs.Rows.{lowest};
-ghost use Rattle.image.specs.Whole.{Whole};
+ghost use Rattle.image.specs.Inner.Whole.{Whole};
 use image::fits::layout;
 use image::records::node_at;
 

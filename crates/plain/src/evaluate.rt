@@ -6,7 +6,7 @@ ghost use lib.ListN.{length, getD};
 ghost use Rattle.sets.specs.Member.{bit};
 ghost use Rattle.imp.specs.Shared.{valueIn, truthIn};
 ghost use Rattle.image.specs.Tree.{read};
-ghost use Rattle.plain.specs.Evaluating.{Evaluating};
+ghost use Rattle.plain.specs.Inner.Evaluating.{Evaluating};
 use image::records::Node;
 use image::records::node_at;
 use imp::less;

@@ -2,7 +2,7 @@
 ghost use mathlib.Core.Path.{_≡_};
 ghost use lib.ListN.{length};
 ghost use Rattle.image.specs.Check.{shape-of};
-ghost use Rattle.image.specs.Theorem.Accepted.{Accepted};
+ghost use Rattle.image.specs.Accepted.{Accepted};
 ghost use Rattle.plain.specs.PlainRun.{lent-rows, plain-rows, Runs};
 
 mod choices; // choices.rt: the lowest choice of an image

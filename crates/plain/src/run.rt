@@ -2,8 +2,8 @@
 ghost use Rattle.imp.specs.Configure.{configure};
 ghost use Rattle.imp.specs.Plain.{run as running};
 ghost use Rattle.image.specs.Tree.{read};
-ghost use Rattle.plain.specs.Progress.{state-of};
-ghost use Rattle.plain.specs.Running.{Running, Repeating, Trying, Ran, turning, trying};
+ghost use Rattle.plain.specs.Inner.Progress.{state-of};
+ghost use Rattle.plain.specs.Inner.Running.{Running, Repeating, Trying, Ran, turning, trying};
 use crate::evaluate::chosen;
 use crate::progress::Progress;
 use crate::step::assign;

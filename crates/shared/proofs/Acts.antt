@@ -6,24 +6,23 @@ use Prim.Native.Nat.{ℕ, _+_, _-_, _*_, _<_}
 use native.Mathlib.Decide.{ℕ-discrete}
 use lib.Dec.{eqb}
 use lib.IntN.{ℤ}
-use lib.ListN.{set}
 use borrow.Author.Tests.{eq-eqb, ne-eqb}
 use borrow.Rule.Slice.PartMut.{putMid}
 use Rattle.sets.specs.declared.Set.{Set}
 use Rattle.sets.specs.Member.{bit}
 use Rattle.imp.specs.State.{Numbers, State, store, thrown, taken}
-use Rattle.imp.specs.Shared.{valueIn, Settings, for}
-use Rattle.imp.specs.Theorem.Live.{Below}
+use Rattle.imp.specs.Shared.{valueIn, Settings, for, Below}
 use Rattle.image.specs.declared.records.Node.{Node}
 use Rattle.image.specs.Bytes.{Bytes}
 use Rattle.image.specs.Tree.{read}
 use Rattle.plain.specs.declared.progress.Progress.{Progress}
-use Rattle.plain.specs.Progress.{state-of}
-use Rattle.plain.specs.Running.{Ran}
+use Rattle.plain.specs.Inner.Progress.{state-of}
+use Rattle.plain.specs.Inner.Running.{Ran}
 use Rattle.shared.specs.declared.plan.Plan.{Plan}
-use Rattle.shared.specs.Lent.{Tally, Tallied, Lent, progress, put, part, own, as-shared}
-use Rattle.shared.specs.Each.{Only}
-use Rattle.shared.specs.Acting.{acting, ActedAt, ActedFor}
+use Rattle.shared.specs.Lent.{Tally, progress, part}
+use Rattle.shared.specs.Inner.Lent.{Tallied, Lent, put, own, as-shared}
+use Rattle.shared.specs.Inner.Each.{Only}
+use Rattle.shared.specs.Inner.Acting.{acting, ActedAt, ActedFor}
 use Rattle.shared.proofs.Each.{Upto, upto-all}
 use Rattle.shared.proofs.Parts.{back-length, back-here, back-other}
 use Rattle.shared.proofs.Tallies.{progress-put, put-tallied}

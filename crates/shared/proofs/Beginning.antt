@@ -17,13 +17,14 @@ use Rattle.imp.specs.Theorem.Begin.{ready-lt}
 use Rattle.imp.specs.Theorem.Sets.{and-true, any-true}
 use Rattle.imp.specs.Theorem.WhileShared.{left, reached, begun-some, begun-none}
 use Rattle.plain.specs.declared.progress.Progress.{Progress}
-use Rattle.plain.specs.Progress.{state-of}
-use Rattle.plain.specs.Running.{Began}
+use Rattle.plain.specs.Inner.Progress.{state-of}
+use Rattle.plain.specs.Inner.Running.{Began}
 use Rattle.plain.proofs.Beginning.{ready-is}
 use Rattle.shared.specs.declared.turn.Turn.{Turn}
-use Rattle.shared.specs.Lent.{Tally, Tallied, progress, put, part, own, as-shared}
-use Rattle.shared.specs.Each.{Only}
-use Rattle.shared.specs.Beginning.{BeganAt, BeginningFor, BegunFor}
+use Rattle.shared.specs.Lent.{Tally, progress, part}
+use Rattle.shared.specs.Inner.Lent.{Tallied, put, own, as-shared}
+use Rattle.shared.specs.Inner.Each.{Only}
+use Rattle.shared.specs.Inner.Beginning.{BeganAt, BeginningFor, BegunFor}
 use Rattle.shared.proofs.Each.{Upto, upto-none, upto-next, upto-here, upto-all}
 use Rattle.shared.proofs.Found.{Found, found-none, found-next, found-all}
 use Rattle.shared.proofs.Members.{any-members}

@@ -11,23 +11,25 @@ use lib.Pow.{pow-mono}
 use Rattle.sets.specs.declared.Set.{Set}
 use Rattle.sets.specs.Member.{bit}
 use Rattle.imp.specs.State.{Numbers, fresh, untouched}
-use Rattle.imp.specs.Shared.{Settings, start, shared-run}
-use Rattle.imp.specs.Theorem.Live.{Below}
+use Rattle.imp.specs.Shared.{Settings, start, shared-run, Below}
 use Rattle.image.specs.declared.accept.Shape.{Shape}
 use Rattle.image.specs.Bytes.{Bytes}
 use Rattle.image.specs.Records.{header}
 use Rattle.image.specs.Check.{shape-of}
 use Rattle.image.specs.Rows.{answer, judge, written}
-use Rattle.image.specs.Sets.{settings, SetsOf}
+use Rattle.image.specs.Sets.{settings}
+use Rattle.image.specs.Inner.SetsOf.{SetsOf}
 use Rattle.image.specs.Tree.{routine}
 use Rattle.image.specs.Theorem.Held.{root-class}
 use Rattle.shared.specs.declared.plan.Plan.{Plan}
 use Rattle.shared.specs.declared.SharedRun.the-variants.{Ended}
-use Rattle.shared.specs.Lent.{Tally, part, as-shared}
-use Rattle.shared.specs.Prepared.{OfClass}
-use Rattle.shared.specs.Sharing.{Within, Sharing, Shares, sharing}
-use Rattle.shared.specs.Starting.{Sized, Starts}
-use Rattle.shared.specs.SharedRun.{SharedRuns, Carried, meant, set-of}
+use Rattle.shared.specs.Lent.{Tally, part}
+use Rattle.shared.specs.Inner.Lent.{as-shared}
+use Rattle.shared.specs.Inner.Prepared.{OfClass}
+use Rattle.shared.specs.Inner.Sharing.{Within, Sharing, Shares, sharing}
+use Rattle.shared.specs.Inner.Starting.{Sized, Starts}
+use Rattle.shared.specs.SharedRun.{SharedRuns, meant, set-of}
+use Rattle.shared.specs.Inner.Carried.{Carried}
 use Rattle.shared.proofs.Result.{store-left, tally-left, ends-told}
 
 -- no step is counted before the run, and no visit

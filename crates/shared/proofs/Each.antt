@@ -7,9 +7,8 @@ use native.Mathlib.Decide.{decLt, ℕ-discrete}
 use lib.Dec.{eqb, ltb}
 use borrow.Author.Tests.{eq-eqb, ne-eqb, lt-ltb, le-ltb}
 use Rattle.imp.specs.State.{State}
-use Rattle.imp.specs.Shared.{Settings}
-use Rattle.imp.specs.Theorem.Live.{Below}
-use Rattle.shared.specs.Each.{Only}
+use Rattle.imp.specs.Shared.{Settings, Below}
+use Rattle.shared.specs.Inner.Each.{Only}
 
 -- the settings of S below k are changed
 pub record Upto (k : ℕ) (S : Settings) (f : ℕ → State → State) (at at′ : ℕ → State) : Type 0 where

@@ -12,9 +12,8 @@ use borrow.Author.Tests.{not-true, eqb-true, ltb-false, lt-ltb, le-ltb}
 use Rattle.sets.specs.declared.Set.{Set}
 use Rattle.sets.specs.Member.{bit, members}
 use Rattle.sets.proofs.Laws.{bit-past}
-use Rattle.imp.specs.Shared.{any, beyond}
+use Rattle.imp.specs.Shared.{any, beyond, Below}
 use Rattle.imp.specs.Theorem.Sets.{and-true, any-true, any-has}
-use Rattle.imp.specs.Theorem.Live.{Below}
 use Rattle.imp.specs.Theorem.Beyond.{beyond-is, not-beyond}
 use Rattle.image.specs.declared.accept.Shape.{Shape}
 use Rattle.image.specs.declared.refusals.Refusal.{Refusal}
@@ -24,13 +23,15 @@ use Rattle.image.specs.Check.{shape-of}
 use Rattle.image.specs.Refusals.{number-of, place-of}
 use Rattle.image.specs.Rows.{Row, refused, judge, written, check-rows}
 use Rattle.image.specs.Sets.{settings}
-use Rattle.image.specs.Theorem.Accepted.{Accepted, accepts}
+use Rattle.image.specs.Accepted.{Accepted}
+use Rattle.image.specs.Theorem.Accepted.{accepts}
 use Rattle.image.specs.Theorem.Then.{judge-then, judge-stops, written-then, written-stops}
 use Rattle.shared.specs.declared.SharedRun.{SharedRun}
 use Rattle.shared.specs.declared.SharedRun.the-variants.{Refused}
 use Rattle.shared.specs.Lent.{Tally}
-use Rattle.shared.specs.Starting.{Sized}
-use Rattle.shared.specs.SharedRun.{SharedRuns, Carried, exact, set-rows, shared-rows}
+use Rattle.shared.specs.Inner.Starting.{Sized}
+use Rattle.shared.specs.SharedRun.{SharedRuns, exact, set-rows, shared-rows}
+use Rattle.shared.specs.Inner.Carried.{Carried}
 use Rattle.shared.proofs.Members.{any-members}
 
 -- ---- row 9: what is left of the set when the settings below N are taken away has a member just when the set has one beyond

@@ -8,8 +8,7 @@ use lib.Dec.{eqb, ltb}
 use borrow.Author.Tests.{eq-eqb, ne-eqb, lt-ltb, le-ltb}
 use Rattle.sets.specs.Member.{bit}
 use Rattle.sets.specs.Digits.{digit-past}
-use Rattle.imp.specs.Shared.{Settings}
-use Rattle.imp.specs.Theorem.Live.{Below}
+use Rattle.imp.specs.Shared.{Settings, Below}
 
 pub record Found (k : ℕ) (S P : Settings) (found : ℕ) : Type 0 where
   pub found-is : (t : ℕ) → bit found t ≡ ((S t && ltb t k) && P t)

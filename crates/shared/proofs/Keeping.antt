@@ -13,20 +13,21 @@ use Rattle.imp.specs.Routine.{Statement, skip}
 use Rattle.imp.specs.Configure.{configure}
 use Rattle.imp.specs.State.{State, ready, enter}
 use Rattle.imp.specs.Plain.{run}
-use Rattle.imp.specs.Shared.{Settings, any, Shared, for, where-true, shared}
+use Rattle.imp.specs.Shared.{Settings, any, Shared, for, where-true, shared, total, steps-at}
 use Rattle.imp.specs.Theorem.Sets.{and-true, any-has}
 use Rattle.imp.specs.Theorem.Agreement.{agrees}
 use Rattle.imp.specs.Theorem.Begin.{enter-steps}
-use Rattle.imp.specs.Theorem.Bounds.{total, steps-at, bounded}
+use Rattle.imp.specs.Theorem.Bounds.{bounded}
 use Rattle.imp.specs.Theorem.Range.{run-steps}
 use Rattle.imp.specs.Theorem.WhileShared.{shared-grows}
 use Rattle.image.specs.Bytes.{Bytes}
-use Rattle.plain.specs.Progress.{state-of}
+use Rattle.plain.specs.Inner.Progress.{state-of}
 use Rattle.shared.specs.declared.plan.Plan.{Plan}
 use Rattle.shared.specs.declared.turn.Turn.{Turn}
-use Rattle.shared.specs.Lent.{Tally, Lent, progress, own, as-shared}
-use Rattle.shared.specs.Beginning.{BeginningFor, BegunFor}
-use Rattle.shared.specs.Sharing.{Within, Sharing, Shares}
+use Rattle.shared.specs.Lent.{Tally, progress}
+use Rattle.shared.specs.Inner.Lent.{Lent, own, as-shared}
+use Rattle.shared.specs.Inner.Beginning.{BeginningFor, BegunFor}
+use Rattle.shared.specs.Inner.Sharing.{Within, Sharing, Shares}
 use Rattle.shared.proofs.Begun.{begun-at}
 
 -- ---- a later state

@@ -10,18 +10,19 @@ use lib.IntN.{ℤ}
 use Rattle.sets.specs.declared.Set.{Set}
 use Rattle.sets.specs.Member.{bit, members}
 use Rattle.imp.specs.Routine.{while, skip}
-use Rattle.imp.specs.Shared.{Settings, any, Shared, for, where-true, shared}
+use Rattle.imp.specs.Shared.{Settings, any, Shared, where-true, shared, Below}
 use Rattle.imp.specs.Theorem.Sets.{and-true, any-false, any-true}
-use Rattle.imp.specs.Theorem.Live.{Below, none-runs}
+use Rattle.imp.specs.Theorem.Live.{none-runs}
 use Rattle.imp.specs.Theorem.WhileShared.{left, while-again}
 use Rattle.image.specs.declared.records.Node.{Node}
 use Rattle.image.specs.Bytes.{Bytes}
 use Rattle.image.specs.Tree.{read}
 use Rattle.shared.specs.declared.plan.Plan.{Plan}
 use Rattle.shared.specs.declared.turn.Turn.{Turn}
-use Rattle.shared.specs.Lent.{Tally, as-shared}
-use Rattle.shared.specs.Beginning.{BegunFor}
-use Rattle.shared.specs.Sharing.{Sharing, Shares, sharing, tested, turning}
+use Rattle.shared.specs.Lent.{Tally}
+use Rattle.shared.specs.Inner.Lent.{as-shared}
+use Rattle.shared.specs.Inner.Beginning.{BegunFor}
+use Rattle.shared.specs.Inner.Sharing.{Sharing, Shares, sharing, tested, turning}
 use Rattle.shared.proofs.Members.{any-members}
 use Rattle.shared.proofs.Begun.{unbegun, does}
 use Rattle.shared.proofs.Keeping.{for-fewer, after-run, begun-on, one-less, no-more}

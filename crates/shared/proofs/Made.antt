@@ -10,10 +10,11 @@ use Rattle.image.specs.declared.records.Node.{Node}
 use Rattle.image.specs.Bytes.{Bytes}
 use Rattle.shared.specs.declared.plan.Plan.{Plan}
 use Rattle.shared.specs.declared.turn.Turn.{Turn}
-use Rattle.shared.specs.Lent.{Tally, as-shared}
-use Rattle.shared.specs.Beginning.{BegunFor}
-use Rattle.shared.specs.Acting.{ActingFor, ActedFor}
-use Rattle.shared.specs.Sharing.{Sharing, Shares}
+use Rattle.shared.specs.Lent.{Tally}
+use Rattle.shared.specs.Inner.Lent.{as-shared}
+use Rattle.shared.specs.Inner.Beginning.{BegunFor}
+use Rattle.shared.specs.Inner.Acting.{ActingFor, ActedFor}
+use Rattle.shared.specs.Inner.Sharing.{Sharing, Shares}
 
 abbrev turn-of : Set → ℕ → ℕ → Turn
 turn-of on rem visits = record { on = on; rem = rem; visits = visits }

@@ -8,9 +8,8 @@ use lib.Dec.{eqb}
 use borrow.Author.Tests.{eqb-true, eqb-false, eq-eqb, ne-eqb}
 use Rattle.sets.specs.Member.{digit, bit, members}
 use Rattle.sets.specs.Digits.{digit-lt}
-use Rattle.imp.specs.Shared.{any}
+use Rattle.imp.specs.Shared.{any, Below}
 use Rattle.imp.specs.Theorem.Sets.{any-true, any-false}
-use Rattle.imp.specs.Theorem.Live.{Below}
 
 -- a setting of the first k is counted, and where none is, none is counted
 counts : (n k s : ℕ) → s < k → bit n s ≡ true → 0 < members n k

@@ -10,13 +10,14 @@ use Rattle.imp.specs.Shared.{Settings}
 use Rattle.image.specs.declared.records.Node.{Node}
 use Rattle.image.specs.Bytes.{Bytes}
 use Rattle.plain.specs.declared.progress.Progress.{Progress}
-use Rattle.plain.specs.Evaluating.{Evaluating}
-use Rattle.plain.specs.Progress.{Proper}
+use Rattle.plain.specs.Inner.Evaluating.{Evaluating}
+use Rattle.plain.specs.Inner.Progress.{Proper}
 use Rattle.shared.specs.declared.plan.Plan.{Plan}
-use Rattle.shared.specs.Lent.{Tally, Tallied, Lent, part}
-use Rattle.shared.specs.Prepared.{Prepared, OfClass}
-use Rattle.shared.specs.Asking.{asking, Asks, Asking}
-use Rattle.shared.specs.Acting.{Acts, Acting}
+use Rattle.shared.specs.Lent.{Tally, part}
+use Rattle.shared.specs.Inner.Lent.{Tallied, Lent}
+use Rattle.shared.specs.Inner.Prepared.{Prepared, OfClass}
+use Rattle.shared.specs.Inner.Asking.{asking, Asks, Asking}
+use Rattle.shared.specs.Inner.Acting.{Acts, Acting}
 
 module _ {l : Bytes} {plan : Plan} {sets : List ℕ} {s : ℕ} {ns : List ℤ} (below : s < plan .settings) (sixteen : length ns ≡ 16) where
   -- a node is evaluated in setting s, on its own numbers

@@ -9,19 +9,19 @@ use lib.ListN.{length, getD}
 use lib.Pow.{pow-pos}
 use Rattle.sets.specs.declared.Set.{Set}
 use Rattle.sets.specs.Member.{bit}
-use Rattle.imp.specs.Shared.{Settings, Shared}
+use Rattle.imp.specs.Shared.{Settings, Shared, Below}
 use Rattle.imp.specs.Theorem.Sets.{and-true}
-use Rattle.imp.specs.Theorem.Live.{Below}
 use Rattle.image.specs.declared.records.Node.{Node}
 use Rattle.image.specs.Bytes.{Bytes}
-use Rattle.image.specs.Ready.{Ready}
+use Rattle.image.specs.Inner.Ready.{Ready}
 use Rattle.image.specs.Sets.{settings}
 use Rattle.shared.specs.declared.plan.Plan.{Plan}
-use Rattle.shared.specs.Lent.{Tally, as-shared}
-use Rattle.shared.specs.Prepared.{Prepared, OfClass}
-use Rattle.shared.specs.Asking.{AskingFor}
-use Rattle.shared.specs.Acting.{ActingFor}
-use Rattle.shared.specs.Sharing.{Sharing, Chooses, sharing, choosing, deciding, tested}
+use Rattle.shared.specs.Lent.{Tally}
+use Rattle.shared.specs.Inner.Lent.{as-shared}
+use Rattle.shared.specs.Inner.Prepared.{Prepared, OfClass}
+use Rattle.shared.specs.Inner.Asking.{AskingFor}
+use Rattle.shared.specs.Inner.Acting.{ActingFor}
+use Rattle.shared.specs.Inner.Sharing.{Sharing, Chooses, sharing, choosing, deciding, tested}
 use Rattle.shared.proofs.Keeping.{for-fewer}
 use Rattle.shared.proofs.Whose.{Answers, where-tested, where-rest, where-chosen, where-not-chosen}
 

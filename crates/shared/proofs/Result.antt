@@ -10,9 +10,10 @@ use lib.Seq.{take-all, take-suc, take-add}
 use Rattle.sets.specs.declared.Set.{Set}
 use Rattle.imp.specs.State.{outcome-number, code}
 use Rattle.imp.specs.Shared.{Shared}
-use Rattle.plain.specs.Progress.{state-of}
-use Rattle.shared.specs.Lent.{Tally, Lent, tally, progress, part, own, as-shared}
-use Rattle.shared.specs.Sharing.{Shares}
+use Rattle.plain.specs.Inner.Progress.{state-of}
+use Rattle.shared.specs.Lent.{Tally, tally, progress, part}
+use Rattle.shared.specs.Inner.Lent.{Lent, own, as-shared}
+use Rattle.shared.specs.Inner.Sharing.{Shares}
 use Rattle.shared.specs.SharedRun.{each, numbers-of, tally-of, set-of, ends-of}
 
 -- a list is what is read of it at each place

@@ -10,12 +10,12 @@ use lib.Seq.{getD-set-same, getD-set-other}
 use Rattle.sets.specs.declared.Set.{Set}
 use Rattle.sets.specs.Member.{bit}
 use Rattle.imp.specs.State.{Numbers, outcome-number, code, fresh, untouched}
-use Rattle.imp.specs.Shared.{start}
-use Rattle.imp.specs.Theorem.Live.{Below}
+use Rattle.imp.specs.Shared.{start, Below}
 use Rattle.plain.specs.declared.progress.Progress.{Progress}
-use Rattle.plain.specs.Progress.{outcome-from, state-of, Proper}
-use Rattle.shared.specs.Lent.{Tally, progress, put, part, own, as-shared}
-use Rattle.shared.specs.Starting.{Sized, first-progress, Starts}
+use Rattle.plain.specs.Inner.Progress.{outcome-from, state-of, Proper}
+use Rattle.shared.specs.Lent.{Tally, progress, part}
+use Rattle.shared.specs.Inner.Lent.{put, own, as-shared}
+use Rattle.shared.specs.Inner.Starting.{Sized, first-progress, Starts}
 
 -- one setting is put at its first progress
 pub first-put : (set : Set) (s : ℕ) (T : Tally) {o : ℕ} {T″ : Tally} → o ≡ cond (bit (set .bits) s) 1 0

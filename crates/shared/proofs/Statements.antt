@@ -16,15 +16,15 @@ use Rattle.image.specs.Records.{header, node}
 use Rattle.image.specs.Layout.{kinds, layout, class-digit, variable-digit, a-digit, b-digit, c-digit, names-node, is-choice}
 use Rattle.image.specs.Rows.{node-fits, class, classed}
 use Rattle.image.specs.Tree.{read}
-use Rattle.image.specs.Theorem.Accepted.{Accepted}
+use Rattle.image.specs.Accepted.{Accepted}
 use Rattle.image.specs.Theorem.Choosing.{choice-condition}
 use Rattle.image.specs.Theorem.Kinds.{kind-cases}
 use Rattle.image.specs.Theorem.Held.{Child, child-a, child-b, child-c, variable-below}
 use Rattle.image.specs.Theorem.Reading.{skip-at, assign-at, sequence-at, if-at, while-at, throw-at, try-at, choice-at}
 use Rattle.shared.specs.declared.plan.Plan.{Plan}
-use Rattle.shared.specs.Prepared.{OfClass}
-use Rattle.shared.specs.Acting.{acting}
-use Rattle.shared.specs.Sharing.{Chooses, Follows, Decides, Repeats, Attempts, sharing, choosing, following, deciding, turning, trying}
+use Rattle.shared.specs.Inner.Prepared.{OfClass}
+use Rattle.shared.specs.Inner.Acting.{acting}
+use Rattle.shared.specs.Inner.Sharing.{Chooses, Follows, Decides, Repeats, Attempts, sharing, choosing, following, deciding, turning, trying}
 
 -- an accepted image's node, as it was read
 pub record At (l : Bytes) (n : ℕ) (ν : Node) : Type 0 where

@@ -11,8 +11,9 @@ use lib.ListN.{length-set}
 use lib.Seq.{getD-set-same, getD-set-other}
 use borrow.Author.Tests.{eq-eqb, ne-eqb}
 use Rattle.plain.specs.declared.progress.Progress.{Progress}
-use Rattle.plain.specs.Progress.{state-of, Proper}
-use Rattle.shared.specs.Lent.{Tally, Tallied, progress, put, part, own}
+use Rattle.plain.specs.Inner.Progress.{state-of, Proper}
+use Rattle.shared.specs.Lent.{Tally, progress, part}
+use Rattle.shared.specs.Inner.Lent.{Tallied, put, own}
 
 -- three numbers of a setting
 abbrev three : ℕ → ℤ → ℕ → Progress

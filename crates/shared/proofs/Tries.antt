@@ -10,9 +10,10 @@ use Rattle.imp.specs.Shared.{Settings, Shared, for, where-true}
 use Rattle.image.specs.declared.records.Node.{Node}
 use Rattle.image.specs.Bytes.{Bytes}
 use Rattle.shared.specs.declared.plan.Plan.{Plan}
-use Rattle.shared.specs.Lent.{Tally, as-shared}
-use Rattle.shared.specs.Acting.{acting, ActedFor}
-use Rattle.shared.specs.Sharing.{Sharing, Shares, sharing, trying}
+use Rattle.shared.specs.Lent.{Tally}
+use Rattle.shared.specs.Inner.Lent.{as-shared}
+use Rattle.shared.specs.Inner.Acting.{acting, ActedFor}
+use Rattle.shared.specs.Inner.Sharing.{Sharing, Shares, sharing, trying}
 use Rattle.shared.proofs.Keeping.{Later, later-act, goes-on}
 use Rattle.shared.proofs.Statements.{acting-counts-none}
 use Rattle.shared.proofs.Whose.{Answers, where-caught}

@@ -9,17 +9,18 @@ use borrow.Author.Tests.{eq-eqb, ne-eqb, lt-ltb}
 use Rattle.sets.specs.Member.{bit}
 use Rattle.imp.specs.Condition.{holds}
 use Rattle.imp.specs.State.{State, in-fault}
-use Rattle.imp.specs.Shared.{Settings, Shared, where-true, where-false}
-use Rattle.imp.specs.Theorem.Live.{Below}
+use Rattle.imp.specs.Shared.{Settings, Shared, where-true, where-false, Below}
 use Rattle.image.specs.declared.records.Node.{Node}
 use Rattle.image.specs.Bytes.{Bytes}
-use Rattle.image.specs.Sets.{settings, in-condition, SetsOf}
+use Rattle.image.specs.Sets.{settings, in-condition}
+use Rattle.image.specs.Inner.SetsOf.{SetsOf}
 use Rattle.image.specs.Tree.{condition}
-use Rattle.plain.specs.Progress.{state-of}
+use Rattle.plain.specs.Inner.Progress.{state-of}
 use Rattle.plain.proofs.Beginning.{fault-is}
-use Rattle.shared.specs.Lent.{Tally, progress, part, own, as-shared}
-use Rattle.shared.specs.Asking.{asking}
-use Rattle.shared.specs.Sharing.{tested}
+use Rattle.shared.specs.Lent.{Tally, progress, part}
+use Rattle.shared.specs.Inner.Lent.{own, as-shared}
+use Rattle.shared.specs.Inner.Asking.{asking}
+use Rattle.shared.specs.Inner.Sharing.{tested}
 
 -- the answers of all settings of a set
 abbrev pub Answers : Bytes → Node → Settings → List ℤ → List ℕ → ℕ → Type 0

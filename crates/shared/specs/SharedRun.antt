@@ -1,29 +1,23 @@
 -- What the shared run answers and what it leaves in all that is lent (document 01, "What is lent and what comes back", and rows 9, 10 and 12).
 use mathlib.Core.Path.{_≡_}
-use Prim.Native.Nat.{ℕ, zero, suc, _+_, _*_, _^_, _≤_}
+use Prim.Native.Nat.{ℕ, zero, suc, _+_, _*_, _^_}
 use mathlib.Core.Bool.{Bool, not, _&&_, cond}
 use mathlib.Core.List.{List, [], _∷_, _++_}
 use lib.Dec.{eqb, ltb}
 use lib.IntN.{ℤ}
 use lib.ListN.{length}
-use Rattle.sets.specs.declared.Set.{Set}
 use Rattle.sets.specs.Member.{bit}
 use Rattle.imp.specs.State.{outcome-number, code}
 use Rattle.imp.specs.Shared.{Settings, Shared, shared-run, beyond}
-use Rattle.imp.specs.Theorem.Live.{Below}
-use Rattle.image.specs.declared.accept.Shape.{Shape}
 use Rattle.image.specs.Bytes.{Bytes}
-use Rattle.image.specs.Check.{shape-of}
 use Rattle.image.specs.Refusals.{number-of, place-of}
 use Rattle.image.specs.Rows.{Row, row, Answer, refused, answer, judge, written, check-rows}
 use Rattle.image.specs.Sets.{settings}
-use Rattle.image.specs.Theorem.Accepted.{Accepted}
 use Rattle.image.specs.Tree.{routine}
 use Rattle.shared.specs.declared.Ends.{Ends}
 use Rattle.shared.specs.declared.SharedRun.{SharedRun}
 use Rattle.shared.specs.declared.SharedRun.the-variants.{Ended, Refused}
 use Rattle.shared.specs.Lent.{Tally, tally, part}
-use Rattle.shared.specs.Starting.{Sized}
 
 -- the run's meaning
 unfoldable pub meant : Bytes → ℕ → ℕ → List ℤ → Shared
@@ -78,12 +72,3 @@ pub record SharedRuns (rows : List Row) (l : Bytes) (set budget : ℕ) (xs : Lis
   pub answered : shared-answer r ≡ judge rows (ends-of (settings l) (meant l set budget xs))
   pub store-is : xs′ ≡ written rows (numbers-of (settings l) (meant l set budget xs)) xs
   pub tally-is : T′ ≡ written rows (tally-of (settings l) (meant l set budget xs)) T
-
--- what is known when every test is passed
-pub record Carried (l : Bytes) (shape : Shape) (set : Set) (budget : ℕ) (xs : List ℤ) (T : Tally) : Type 0 where
-  pub accepted : Accepted l
-  pub shape-is : shape ≡ shape-of l
-  pub below : Below (settings l) (bit (set .bits))
-  pub allowed : budget ≤ 100000
-  pub store-length : length xs ≡ settings l * 16
-  pub sized : Sized (settings l) T

@@ -1,9 +1,8 @@
 // What a statement does by itself in each setting it is run for: an assignment, a throw, and a try that takes a fault.
-ghost use Prim.Native.Nat.{_<_};
-ghost use Rattle.plain.specs.Progress.{state-of};
-ghost use Rattle.plain.specs.Running.{Ran};
+ghost use Rattle.plain.specs.Inner.Progress.{state-of};
+ghost use Rattle.plain.specs.Inner.Running.{Ran};
 ghost use Rattle.shared.specs.Lent.{tally};
-ghost use Rattle.shared.specs.Acting.{acting, Acts, ActingAt, ActedAt, ActingFor, ActedFor};
+ghost use Rattle.shared.specs.Inner.Acting.{acting, Acts, ActingAt, ActedAt, ActingFor, ActedFor};
 use crate::lent::progress_of;
 use crate::lent::set_progress;
 use crate::plan::Plan;

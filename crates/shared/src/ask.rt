@@ -1,12 +1,12 @@
 // What a statement asks of each setting it is run for: an if and a while ask their test, a try asks whether its body ended in fault.
 ghost use mathlib.Core.Path.{_≡_};
 ghost use mathlib.Core.Bool.{_&&_, _||_};
-ghost use Prim.Native.Nat.{ℕ, _*_, _<_};
+ghost use Prim.Native.Nat.{ℕ, _*_};
 ghost use lib.Dec.{eqb};
-ghost use lib.ListN.{length, getD};
+ghost use lib.ListN.{getD};
 ghost use Rattle.sets.specs.Member.{has};
 ghost use Rattle.shared.specs.Lent.{part};
-ghost use Rattle.shared.specs.Asking.{asking, Asks, AskingAt, AskingFor};
+ghost use Rattle.shared.specs.Inner.Asking.{asking, Asks, AskingAt, AskingFor};
 use crate::plan::Plan;
 use image::records::Node;
 use plain::evaluate::boolean;

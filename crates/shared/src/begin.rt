@@ -5,7 +5,7 @@ ghost use Prim.Native.Nat.{_+_, _-_, _<_, _≤_};
 ghost use lib.Dec.{eqb};
 ghost use Rattle.sets.specs.Member.{members};
 ghost use Rattle.shared.specs.Lent.{tally};
-ghost use Rattle.shared.specs.Beginning.{BeginningAt, BeganAt, BeginningFor, BegunFor};
+ghost use Rattle.shared.specs.Inner.Beginning.{BeginningAt, BeganAt, BeginningFor, BegunFor};
 use crate::lent::progress_of;
 use crate::lent::set_progress;
 use crate::plan::Plan;

@@ -2,7 +2,8 @@
 ghost use mathlib.Core.Path.{_≡_};
 ghost use Prim.Native.Nat.{_<_};
 ghost use lib.ListN.{length};
-ghost use Rattle.shared.specs.Lent.{tally, progress, put};
+ghost use Rattle.shared.specs.Lent.{tally, progress};
+ghost use Rattle.shared.specs.Inner.Lent.{put};
 use plain::progress::Progress;
 
 // How far setting s is.

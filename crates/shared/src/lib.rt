@@ -1,18 +1,16 @@
 // The run over a set of settings.
 ghost use mathlib.Core.Path.{_≡_};
 ghost use mathlib.Core.Bool.{_&&_};
-ghost use Prim.Native.Nat.{_*_, _≤_, _^_};
+ghost use Prim.Native.Nat.{_*_, _≤_};
 ghost use mathlib.Core.List.{[]};
 ghost use lib.Dec.{eqb};
-ghost use lib.ListN.{length};
-ghost use Rattle.sets.specs.Member.{bit};
-ghost use Rattle.imp.specs.Theorem.Live.{Below};
 ghost use Rattle.image.specs.Check.{shape-of};
 ghost use Rattle.image.specs.Sets.{settings};
-ghost use Rattle.image.specs.Theorem.Accepted.{Accepted};
+ghost use Rattle.image.specs.Accepted.{Accepted};
 ghost use Rattle.shared.specs.Lent.{tally};
 ghost use Rattle.shared.specs.declared.SharedRun.the-variants.{Ended};
-ghost use Rattle.shared.specs.SharedRun.{SharedRuns, Carried, set-rows, shared-rows};
+ghost use Rattle.shared.specs.SharedRun.{SharedRuns, set-rows, shared-rows};
+ghost use Rattle.shared.specs.Inner.Carried.{Carried};
 
 mod act; // act.rt: what a statement does by itself in each setting
 mod ask; // ask.rt: what a statement asks of each setting

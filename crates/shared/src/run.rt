@@ -1,8 +1,9 @@
 // The run of a statement for the settings of a set: recursion with the remaining budget and the node number falling.
 ghost use Rattle.sets.specs.Member.{bit};
-ghost use Rattle.shared.specs.Lent.{tally, as-shared};
-ghost use Rattle.shared.specs.Prepared.{OfClass};
-ghost use Rattle.shared.specs.Sharing.{Sharing, Chooses, Follows, Decides, Repeats, Attempts, Shares, sharing, choosing, following, deciding, turning, trying};
+ghost use Rattle.shared.specs.Lent.{tally};
+ghost use Rattle.shared.specs.Inner.Lent.{as-shared};
+ghost use Rattle.shared.specs.Inner.Prepared.{OfClass};
+ghost use Rattle.shared.specs.Inner.Sharing.{Sharing, Chooses, Follows, Decides, Repeats, Attempts, Shares, sharing, choosing, following, deciding, turning, trying};
 use crate::act::act_for;
 use crate::ask::ask_for;
 use crate::begin::begin_for;

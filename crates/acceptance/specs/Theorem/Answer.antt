@@ -12,8 +12,8 @@ use borrow.Author.Tests.{ne-eqb}
 use Rattle.sets.specs.Member.{bit, has}
 use Rattle.sets.proofs.Laws.{bit-none}
 use Rattle.imp.specs.State.{State, outcome-number, untouched}
-use Rattle.imp.specs.Shared.{Settings, Shared}
-use Rattle.imp.specs.Theorem.Bounds.{total, steps-below, visits-below, empty-visits}
+use Rattle.imp.specs.Shared.{Settings, Shared, total}
+use Rattle.imp.specs.Theorem.Bounds.{steps-below, visits-below, empty-visits}
 use Rattle.image.specs.Bytes.{Bytes}
 use Rattle.image.specs.Sets.{settings}
 use Rattle.image.specs.Tree.{routine}

@@ -9,12 +9,12 @@ use lib.ListN.{length, getElem?}
 use Rattle.imp.specs.State.{Numbers}
 use Rattle.image.specs.declared.accept.Shape.{Shape}
 use Rattle.image.specs.declared.accept.Checked.{Checked}
-use Rattle.image.specs.Bytes.{Bytes}
+use Rattle.image.specs.Bytes.{Bytes, over}
 use Rattle.image.specs.Check.{answer-of, shape-of}
 use Rattle.image.specs.Rows.{Row, Answer, judge, written, check-rows}
 use Rattle.image.specs.Sets.{settings}
 use Rattle.configure.specs.declared.Configured.{Configured}
-use Rattle.configure.specs.Configured.{configured, configure-rows, configure-answer, over, Configures}
+use Rattle.configure.specs.Configured.{configured, configure-rows, configure-answer, Configures}
 use Rattle.plain.specs.declared.progress.Progress.{Progress}
 use Rattle.plain.specs.declared.PlainRun.{PlainRun}
 use Rattle.plain.specs.PlainRun as Plain

@@ -7,14 +7,15 @@ use native.Mathlib.Omega.{arith}
 use lib.ListN.{length, take, drop}
 use lib.Seq.{take-at}
 use borrow.Author.Tests.{lt-ltb, le-ltb}
-use Rattle.image.specs.Bytes.{Bytes}
-use Rattle.image.specs.Rows.{Row, answer, check-rows}
+use Rattle.image.specs.Bytes.{Bytes, over}
+use Rattle.image.specs.Rows.{Row, answer, check-rows, NoneFails}
 use Rattle.image.specs.Sets.{settings}
-use Rattle.image.specs.Theorem.Given.{NoneFails, answered, carried-out}
-use Rattle.image.specs.Theorem.Accepted.{Accepted, accepts}
+use Rattle.image.specs.Theorem.Given.{answered, carried-out}
+use Rattle.image.specs.Accepted.{Accepted}
+use Rattle.image.specs.Theorem.Accepted.{accepts}
 use Rattle.configure.specs.declared.Configured.{Configured}
 use Rattle.configure.specs.declared.Configured.the-variants.{Length, Refused}
-use Rattle.configure.specs.Configured.{configured, space-rows, configure-rows, configure-answer, over, Configures}
+use Rattle.configure.specs.Configured.{configured, space-rows, configure-rows, configure-answer, Configures}
 use Rattle.configure.specs.Theorem.Result.{shape-is, passes}
 use Rattle.acceptance.specs.Theorem.Rows.{none-both, carried, written-new}
 

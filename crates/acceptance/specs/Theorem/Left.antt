@@ -7,8 +7,7 @@ use native.Mathlib.Decide.{ℕ-discrete}
 use lib.IntN.{ℤ}
 use lib.ListN.{length, getD, take, drop, length-append, length-drop, List·getD-append, List·getD-eq-default}
 use lib.Seq.{length-take-le, take-all, take-append-le, drop-append-le, drop-at, getD-at}
-use Rattle.imp.specs.Shared.{Shared}
-use Rattle.imp.specs.Theorem.Bounds.{total}
+use Rattle.imp.specs.Shared.{Shared, total}
 use Rattle.shared.specs.Lent.{part}
 use Rattle.shared.specs.SharedRun.{each, numbers-of}
 

@@ -11,10 +11,11 @@ use Rattle.imp.specs.Configure.{configure}
 use Rattle.imp.specs.Plain.{plain-run}
 use Rattle.imp.specs.Theorem.Configured.{configure-embed}
 use Rattle.image.specs.Bytes.{Bytes}
-use Rattle.image.specs.Rows.{Row, answer, check-rows}
+use Rattle.image.specs.Rows.{Row, answer, check-rows, NoneFails}
 use Rattle.image.specs.Tree.{routine}
-use Rattle.image.specs.Theorem.Given.{NoneFails, answered, carried-out}
-use Rattle.image.specs.Theorem.Accepted.{Accepted, accepts}
+use Rattle.image.specs.Theorem.Given.{answered, carried-out}
+use Rattle.image.specs.Accepted.{Accepted}
+use Rattle.image.specs.Theorem.Accepted.{accepts}
 use Rattle.configure.specs.Configured.{configured}
 use Rattle.configure.specs.Theorem.Result.{shape-is, passes, tree-is}
 use Rattle.plain.specs.declared.progress.Progress.{Progress}

@@ -1,8 +1,8 @@
 -- A call that was carried out: no row failed, so it answered what it was called for and wrote what it may write.
 use mathlib.Core.Path.{_≡_, sym, _∙_, ap}
 use mathlib.Core.List.{List, [], _∷_, _++_}
-use Rattle.image.specs.Rows.{Row, answer, judge, written}
-use Rattle.image.specs.Theorem.Given.{NoneFails, answered, carried-out, by-answer, written-as-judged}
+use Rattle.image.specs.Rows.{Row, answer, judge, written, NoneFails}
+use Rattle.image.specs.Theorem.Given.{answered, carried-out, by-answer, written-as-judged}
 
 -- a table and its continuation
 pub none-each : (rows more : List Row) → NoneFails (rows ++ more) → NoneFails rows × NoneFails more

@@ -10,18 +10,18 @@ use Rattle.sets.specs.Member.{bit}
 use Rattle.imp.specs.State.{State, outcome-number, code, fresh, untouched}
 use Rattle.imp.specs.Configure.{configure}
 use Rattle.imp.specs.Plain.{plain-run}
-use Rattle.imp.specs.Shared.{Shared}
+use Rattle.imp.specs.Shared.{Shared, Below}
 use Rattle.imp.specs.Theorem.Sets.{and-true}
 use Rattle.imp.specs.Theorem.Keep.{length-kept}
-use Rattle.imp.specs.Theorem.Live.{Below}
 use Rattle.imp.specs.Theorem.Beyond.{not-beyond}
 use Rattle.imp.specs.Theorem.Agreement.{agreement, outside}
 use Rattle.image.specs.Bytes.{Bytes}
-use Rattle.image.specs.Rows.{Row, check-rows}
+use Rattle.image.specs.Rows.{Row, check-rows, NoneFails}
 use Rattle.image.specs.Sets.{settings}
 use Rattle.image.specs.Tree.{routine}
-use Rattle.image.specs.Theorem.Given.{NoneFails, carried-out}
-use Rattle.image.specs.Theorem.Accepted.{Accepted, accepted}
+use Rattle.image.specs.Theorem.Given.{carried-out}
+use Rattle.image.specs.Accepted.{Accepted}
+use Rattle.image.specs.Theorem.Accepted.{accepted}
 use Rattle.plain.specs.PlainRun.{progress-of}
 use Rattle.shared.specs.declared.Ends.{Ends}
 use Rattle.shared.specs.declared.SharedRun.the-variants.{Ended}

@@ -16,7 +16,8 @@ use Rattle.image.specs.Refusals.{number-of, place-of}
 use Rattle.image.specs.Rows.{refused, answer, judge, written, check-rows}
 use Rattle.image.specs.Check.{answer-of, shape-of}
 use Rattle.image.specs.Sets.{settings}
-use Rattle.image.specs.Theorem.Accepted.{Accepted, accepts}
+use Rattle.image.specs.Accepted.{Accepted}
+use Rattle.image.specs.Theorem.Accepted.{accepts}
 use Rattle.image.specs.Theorem.Checked.{good-accepted, good-shape}
 use Rattle.image.specs.Theorem.Then.{judge-then, judge-stops, written-then, written-stops}
 use Rattle.configure.specs.declared.Configured.{Configured}

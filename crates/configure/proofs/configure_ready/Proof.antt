@@ -8,11 +8,11 @@ use lib.Seq.{sets, length-sets}
 use borrow.Author.Needs.{needs}
 use Rattle.image.specs.Records.{header}
 use Rattle.image.specs.Term.{size, bytes-of, header-word}
-use Rattle.image.specs.Theorem.Accepted.{Accepted}
+use Rattle.image.specs.Accepted.{Accepted}
 use Rattle.configure.specs.declared.Configured.the-variants.{Length, Refused}
 use Rattle.image.specs.declared.refusals.Refusal.the-variants.{SpaceShort}
-use Rattle.configure.specs.Term.{term-at}
-use Rattle.configure.specs.Writing.{Wrote}
+use Rattle.configure.specs.Inner.Term.{term-at}
+use Rattle.configure.specs.Inner.Writing.{Wrote}
 use Rattle.configure.specs.Configured.{space-rows, Configures}
 use Rattle.configure.specs.Theorem.Small.{size-small}
 use Rattle.configure.proofs.Written as written

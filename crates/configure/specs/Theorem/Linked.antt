@@ -16,12 +16,13 @@ use Rattle.image.specs.Rows.{node-fits, class}
 use Rattle.image.specs.Tree.{condition, read}
 use Rattle.image.specs.Term.{term, none, some}
 use Rattle.image.specs.Encode.{leaf, on-one, on-two, termᵃ, termᵇ, termˢ}
-use Rattle.image.specs.Theorem.Accepted.{Accepted}
-use Rattle.image.specs.Theorem.Lower.{Fitted, fitted, Lower, lower}
+use Rattle.image.specs.Accepted.{Accepted}
+use Rattle.image.specs.Theorem.Lower.{Fitted, fitted, lower}
+use Rattle.image.specs.Inner.Lower.{Lower}
 use Rattle.image.specs.Theorem.Held.{Child, child-a, child-b, child-c}
 use Rattle.image.specs.Theorem.Kinds.{kind-cases}
 use Rattle.image.specs.Theorem.Reading as At
-use Rattle.configure.specs.Term.{hang, term-at}
+use Rattle.configure.specs.Inner.Term.{hang, term-at}
 use Rattle.configure.specs.Theorem.Terms.{choice-term, node-term}
 
 -- the term of node n is that of its tree, in its own class

@@ -15,11 +15,11 @@ use Rattle.image.specs.Records.{header}
 use Rattle.image.specs.Tree.{routine}
 use Rattle.image.specs.Term.{size, term-image}
 use Rattle.image.specs.Encode.{termˢ, plain-image}
-use Rattle.image.specs.Theorem.Accepted.{Accepted}
+use Rattle.image.specs.Accepted.{Accepted}
 use Rattle.image.specs.Theorem.Held.{root-class}
 use Rattle.image.specs.Theorem.ReadValid.{read-valid}
 use Rattle.image.specs.Theorem.RoundTrip.{image-accepted, image-shape, reads-back, again-the-same, equal-bytes, image-length}
-use Rattle.configure.specs.Term.{term-at}
+use Rattle.configure.specs.Inner.Term.{term-at}
 use Rattle.configure.specs.Configured.{configured}
 use Rattle.configure.specs.Theorem.Linked.{linked}
 use Rattle.configure.specs.Theorem.Small.{size-small}

@@ -13,13 +13,14 @@ use Rattle.image.specs.Layout.{layout, a-digit, b-digit, c-digit, names-node, i
 use Rattle.image.specs.Listing.{slot-listing, listing}
 use Rattle.image.specs.Tree.{condition}
 use Rattle.image.specs.Term.{size, branch-size}
-use Rattle.image.specs.Theorem.Accepted.{Accepted}
-use Rattle.image.specs.Theorem.Lower.{Lower, lower}
+use Rattle.image.specs.Accepted.{Accepted}
+use Rattle.image.specs.Inner.Lower.{Lower}
+use Rattle.image.specs.Theorem.Lower.{lower}
 use Rattle.image.specs.Theorem.Choosing.{choice-parts}
 use Rattle.image.specs.Theorem.Sums.{over, length-over}
 use Rattle.image.specs.Theorem.Listed.{by-test, child-listing, over-at}
 use Rattle.image.specs.Theorem.Inside.{tree-small}
-use Rattle.configure.specs.Term.{hang, term-at}
+use Rattle.configure.specs.Inner.Term.{hang, term-at}
 use Rattle.configure.specs.Theorem.Terms.{choice-term, node-term}
 
 module _ (l : List ℕ) (acc : Accepted l) (s : ℕ) where

@@ -13,7 +13,7 @@ use Rattle.image.specs.Records.{node}
 use Rattle.image.specs.Layout.{layout, a-digit, b-digit, c-digit, names-node, is-choice}
 use Rattle.image.specs.Tree.{condition}
 use Rattle.image.specs.Term.{Term, term, some}
-use Rattle.configure.specs.Term.{hang, configuring, term-below, term-at}
+use Rattle.configure.specs.Inner.Term.{hang, configuring, term-below, term-at}
 
 -- a node below n has the same term, whatever n is
 pub term-same : (l : List ℕ) (s n k : ℕ) → k < n → term-below l s n k ≡ term-at l s k

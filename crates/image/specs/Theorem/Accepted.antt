@@ -1,30 +1,18 @@
--- What tests 1 to 8 accept: an image of which each sentence of "The image" holds, and every such image.
+-- Tests 1 to 8 accept the images of which each sentence of "The image" holds, and no other.
 use mathlib.Core.Path.{_≡_}
 use mathlib.Core.Bool.{true}
-use Prim.Native.Nat.{ℕ, suc, _+_, _-_, _*_, _≤_, _<_}
+use Prim.Native.Nat.{ℕ, _-_, _<_}
 use native.Mathlib.Omega.{arith}
 use lib.Dec.{eqb}
 use lib.ListN.{length}
 use borrow.Author.Tests.{ltb-false, le-ltb, eqb-true, eq-eqb}
 use Rattle.image.specs.Bytes.{Bytes}
 use Rattle.image.specs.Records.{header, condition-record, node}
-use Rattle.image.specs.Rows.{answer, judge, short, condition-fits, node-fits, classed, names, named-wrong, check-rows}
-use Rattle.image.specs.Theorem.Given.{NoneFails, answered, carried-out}
+use Rattle.image.specs.Rows.{answer, judge, short, condition-fits, node-fits, classed, names, named-wrong, check-rows, NoneFails}
+use Rattle.image.specs.Theorem.Given.{answered, carried-out}
 use Rattle.image.specs.Theorem.Headers.{editioned, edition-right, InRange, in-range, counts-right, long, length-right}
 use Rattle.image.specs.Theorem.Lowest.{all-pass, none-fails}
-
-pub record Accepted (l : Bytes) : Type 0 where
-  pub edition-is : header l .edition ≡ 1
-  pub zero-is : header l .zero ≡ 0
-  pub few-options : header l .options ≤ 6
-  pub few-conditions : header l .conditions ≤ 256
-  pub some-node : 1 ≤ header l .nodes
-  pub few-nodes : header l .nodes ≤ 1024
-  pub length-is : length l ≡ 8 + 4 * header l .conditions + 8 * header l .nodes
-  pub conditions-fit : (k : ℕ) → k < header l .conditions → condition-fits (header l .options) k (condition-record l k) ≡ true
-  pub nodes-fit : (n : ℕ) → n < header l .nodes → node-fits (header l .conditions) n (node l n) ≡ true
-  pub nodes-classed : (n : ℕ) → n < header l .nodes → classed l n ≡ true
-  pub named-once : (k : ℕ) → suc k < header l .nodes → names l (header l .nodes) k ≡ 1
+use Rattle.image.specs.Accepted.{Accepted}
 
 passed : (l : Bytes) → NoneFails (check-rows l) → Accepted l
 unfolding check-rows named-wrong

@@ -4,7 +4,8 @@ use Rattle.image.specs.declared.accept.Shape.{Shape}
 use Rattle.image.specs.Bytes.{Bytes}
 use Rattle.image.specs.Rows.{answer, judge, check-rows}
 use Rattle.image.specs.Check.{shape-of}
-use Rattle.image.specs.Theorem.Accepted.{Accepted, accepted, accepts}
+use Rattle.image.specs.Accepted.{Accepted}
+use Rattle.image.specs.Theorem.Accepted.{accepted, accepts}
 
 pub good-accepted : (l : Bytes) (shape : Shape) → answer shape ≡ judge (check-rows l) (shape-of l) → Accepted l
 good-accepted l shape e = accepted l (shape-of l) shape (sym e)

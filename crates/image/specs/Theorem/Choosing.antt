@@ -13,10 +13,10 @@ use Rattle.image.specs.Records.{header, node}
 use Rattle.image.specs.Layout.{kinds, layout, a-digit, b-digit, c-digit, names-node, is-choice}
 use Rattle.image.specs.Tree.{condition}
 use Rattle.image.specs.Sets.{settings, in-condition}
-use Rattle.image.specs.Theorem.Accepted.{Accepted}
+use Rattle.image.specs.Accepted.{Accepted}
 use Rattle.image.specs.Theorem.Lower.{lower}
 use Rattle.image.specs.Theorem.Held.{condition-a}
-use Rattle.image.specs.Ready.{Ready}
+use Rattle.image.specs.Inner.Ready.{Ready}
 use Rattle.image.specs.Theorem.Kinds.{kind-cases}
 
 -- the parts of a choice are nodes

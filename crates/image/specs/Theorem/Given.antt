@@ -5,7 +5,7 @@ use mathlib.Core.List.{List, [], _∷_, _++_}
 use mathlib.Core.Logic.{_↔_}
 use Prim.Native.Nat.{ℕ}
 use native.Mathlib.Omega.{arith}
-use Rattle.image.specs.Rows.{Row, Answer, refused, answer, judge, written}
+use Rattle.image.specs.Rows.{Row, Answer, refused, answer, judge, written, NoneFails, Given}
 
 -- ---- one row
 
@@ -19,21 +19,6 @@ module _ {A : Type 0} (r : Row) (rows : List Row) (x : A) where
   judge-passes passes = rw passes
 
 -- ---- the whole table
-
-abbrev pub NoneFails : List Row → Type 0
-NoneFails [] = Unit {0}
-NoneFails (r ∷ rows) = (r .fails ≡ false) × NoneFails rows
-
--- the number n and the place p are those of a row that fails, and no earlier row does
-pub record Given (rows : List Row) (n p : ℕ) : Type 0 where
-  pub earlier : List Row
-  pub this : Row
-  pub later : List Row
-  pub in-order : rows ≡ earlier ++ (this ∷ later)
-  pub none-earlier : NoneFails earlier
-  pub fails : this .fails ≡ true
-  pub number-is : this .number ≡ n
-  pub place-is : this .place ≡ p
 
 module _ {A : Type 0} (x : A) where
   never : {y : A} {n p : ℕ} → answer y ≡ refused n p → ⊥

@@ -9,7 +9,8 @@ use borrow.Author.Tests.{ltb-true, eqb-true, eq-eqb}
 use Rattle.image.specs.Records.{header, node}
 use Rattle.image.specs.Layout.{layout, variable-digit, a-digit, b-digit, c-digit, names-node, field-fits}
 use Rattle.image.specs.Rows.{node-fits, slot-fits, class, slot-classed, classed}
-use Rattle.image.specs.Theorem.Lower.{both, Fitted, fitted, Lower, lower}
+use Rattle.image.specs.Theorem.Lower.{both, Fitted, fitted, lower}
+use Rattle.image.specs.Inner.Lower.{Lower}
 
 -- a child: lower than its parent, and of the class that the field has
 pub record Child (l : List ℕ) (n slot value : ℕ) : Type 0 where

@@ -14,8 +14,9 @@ use Rattle.image.specs.declared.records.Node.{Node}
 use Rattle.image.specs.Records.{header, node}
 use Rattle.image.specs.Layout.{layout, a-digit, b-digit, c-digit, names-node}
 use Rattle.image.specs.Listing.{slot-listing, listing}
-use Rattle.image.specs.Theorem.Accepted.{Accepted}
-use Rattle.image.specs.Theorem.Lower.{Lower, lower}
+use Rattle.image.specs.Accepted.{Accepted}
+use Rattle.image.specs.Inner.Lower.{Lower}
+use Rattle.image.specs.Theorem.Lower.{lower}
 use Rattle.image.specs.Theorem.Named.{same}
 use Rattle.image.specs.Theorem.Sums.{over, times-over, length-over}
 use Rattle.image.specs.Theorem.Listed.{by-test, child-listing, over-at}

@@ -14,7 +14,8 @@ use Rattle.image.specs.Records.{node}
 use Rattle.image.specs.Layout.{layout, a-digit, b-digit, c-digit, names-node}
 use Rattle.image.specs.Rows.{node-fits}
 use Rattle.image.specs.Listing.{slot-listing, node-listing, listing-below, listing}
-use Rattle.image.specs.Theorem.Lower.{Lower, lower}
+use Rattle.image.specs.Inner.Lower.{Lower}
+use Rattle.image.specs.Theorem.Lower.{lower}
 use Rattle.image.specs.Theorem.Sums.{over, over-append}
 
 -- ---- the listing of a node, from those of its children

@@ -8,6 +8,7 @@ use borrow.Author.Tests.{ltb-true, eqb-true, ne-eqb}
 use Rattle.image.specs.declared.records.Node.{Node}
 use Rattle.image.specs.Layout.{kinds, layout, variable-digit, a-digit, b-digit, c-digit, names-node, field-fits}
 use Rattle.image.specs.Rows.{slot-fits, node-fits}
+use Rattle.image.specs.Inner.Lower.{Lower}
 
 -- both halves of a test that holds
 pub both : (a b : Bool) → (a && b) ≡ true → (a ≡ true) × (b ≡ true)
@@ -50,12 +51,6 @@ fitted conditions n ν fits other =
     let later = both a (b && c) (slots .1) in
     let last = both b c (later .1) in
     record { known = all .0; no-rest = fields .0; variable-fits = slots .0; a-fits = later .0; b-fits = last .0; c-fits = last .1 }
-
--- the three fields that can name a node
-pub record Lower (n : ℕ) (ν : Node) : Type 0 where
-  pub a-lower : names-node (a-digit (layout (ν .kind))) ≡ true → ν .a < n
-  pub b-lower : names-node (b-digit (layout (ν .kind))) ≡ true → ν .b < n
-  pub c-lower : names-node (c-digit (layout (ν .kind))) ≡ true → ν .c < n
 
 pub lower-more : {m n : ℕ} {ν : Node} → m ≤ n → Lower m ν → Lower n ν
 lower-more h low =

@@ -20,7 +20,7 @@ use Rattle.image.specs.Rows.{class, classed, names}
 use Rattle.image.specs.Tree.{read, routine}
 use Rattle.image.specs.Term.{size}
 use Rattle.image.specs.Encode.{termˢ, plain-image}
-use Rattle.image.specs.Theorem.Accepted.{Accepted}
+use Rattle.image.specs.Accepted.{Accepted}
 use Rattle.image.specs.Theorem.Named.{names-all, same, here-in}
 use Rattle.image.specs.Theorem.Encoded.{size-some}
 use Rattle.image.specs.Theorem.Fine.{Passes, TermGood, term-good, Fine}

@@ -4,13 +4,9 @@ use Prim.Native.Nat.{ℕ, suc, _≤_, _<_}
 use mathlib.Core.Bool.{Bool, true, false, not, _&&_, cond}
 use lib.Dec.{ltb}
 use borrow.Author.Tests.{ltb-true, lt-ltb, le-ltb}
-use Rattle.imp.specs.State.{Numbers, Outcome, idle, done, fault, out, State, live, ready, spent, enter}
+use Rattle.imp.specs.State.{Numbers, Outcome, idle, done, fault, out, State, live, ready, spent, enter, state}
 use Rattle.imp.specs.Plain.{begun}
 use Rattle.imp.specs.Theorem.Sets.{and-true}
-
--- a state written out
-abbrev pub state : Numbers → Outcome → ℕ → State
-state S E k = record { numbers = S; outcome = E; steps = k }
 
 pub begun-yes : (b : ℕ) (f : State → State) (σ : State) → ready b σ ≡ true → begun b f σ ≡ f (enter b σ)
 unfolding begun

@@ -12,8 +12,7 @@ use borrow.Author.Tests.{eq-eqb, le-leb, leb-true, leb-false}
 use Rattle.sets.specs.Member.{digit, bit}
 use Rattle.sets.specs.Digits.{digit-lowest, digit-half}
 use Rattle.sets.proofs.Laws.{bit-past}
-use Rattle.imp.specs.Shared.{beyond}
-use Rattle.imp.specs.Theorem.Live.{Below}
+use Rattle.imp.specs.Shared.{beyond, Below}
 
 -- a number that is not 0 has a digit that is 1
 one-digit : (k n : ℕ) → n < 2 ^ k → 0 < n → (s : ℕ) × (digit n s ≡ 1)

@@ -8,17 +8,9 @@ use native.Mathlib.Nat.{le-refl}
 use Rattle.imp.specs.Condition.{Condition}
 use Rattle.imp.specs.Routine.{Statement, skip, assign, sequence, if, while, throw, try, choice}
 use Rattle.imp.specs.State.{Numbers, State, store, thrown, taken, ready, enter, fresh, untouched}
-use Rattle.imp.specs.Shared.{Settings, any, Shared, for, visited, where-true, begun, turns, shared, start, shared-run}
+use Rattle.imp.specs.Shared.{Settings, any, Shared, for, visited, where-true, begun, turns, shared, start, shared-run, steps-at, total}
 use Rattle.imp.specs.Theorem.Sets.{any-false}
 use Rattle.imp.specs.Theorem.Agreement.{outside}
-
--- the sum of f below n
-unfoldable pub total : ℕ → (ℕ → ℕ) → ℕ
-total zero f = 0
-total (suc n) f = f n + total n f
-
-abbrev pub steps-at : Shared → ℕ → ℕ
-steps-at Σ s = (Σ .at s) .steps
 
 -- from Σ to Σ′ visits rise by at least each setting's steps and by at most the sum of all
 pub record Bounds (N : ℕ) (Σ Σ′ : Shared) : Type 0 where

@@ -5,12 +5,12 @@ use mathlib.Core.Bool.{Bool, false}
 use native.Mathlib.Omega.{arith}
 use lib.ListN.{set}
 use Rattle.imp.specs.Routine.{Boolean, Statement, skip, assign, sequence, if, while, throw, try, choice}
-use Rattle.imp.specs.State.{Numbers, Outcome, done, fault, out, State, store, thrown, taken, code, in-fault, live}
+use Rattle.imp.specs.State.{Numbers, Outcome, done, fault, out, State, store, thrown, taken, code, in-fault, live, state}
 use Rattle.imp.specs.Plain.{truth, turns, handled, run}
 use Rattle.imp.specs.Rules.Figure43.{Context, •, error, outcome-of, begins, S⇓, S-ERR, S-SKIP, S-ASSN, S-SEQ, S-IFT, S-IFB, S-WHILET, S-WHILEF, S-THROW, S-TRY, S-CATCH}
 use Rattle.imp.specs.Rules.CutOff.{C⇓, C-SPENT, C-SEQ1, C-SEQ2, C-IFT, C-IFB, C-WHILE1, C-WHILE2, C-TRY, C-CATCH}
 use Rattle.imp.specs.Theorem.Begin as Begin
-use Rattle.imp.specs.Theorem.Begin.{state, runs-out, begun-dead}
+use Rattle.imp.specs.Theorem.Begin.{runs-out, begun-dead}
 use Rattle.imp.specs.Theorem.WhilePlain.{while-again}
 use Rattle.imp.specs.Theorem.ImpExpressions.{value-derived, truth-derived}
 

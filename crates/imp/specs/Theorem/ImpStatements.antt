@@ -9,13 +9,13 @@ use native.Mathlib.Omega.{arith}
 use native.Mathlib.Decide.{decLt}
 use lib.ListN.{set}
 use Rattle.imp.specs.Routine.{Boolean, Statement, skip, assign, sequence, if, while, throw, try, choice}
-use Rattle.imp.specs.State.{branch, Numbers, done, fault, out, State, store, thrown, taken, code, in-fault, live, fresh}
+use Rattle.imp.specs.State.{branch, Numbers, done, fault, out, State, store, thrown, taken, code, in-fault, live, fresh, state}
 use Rattle.imp.specs.Plain.{truth, begun, turns, handled, run, plain-run}
 use Rattle.imp.specs.Rules.Figure42.{B⇓}
 use Rattle.imp.specs.Rules.Figure43.{Context, •, error, outcome-of, begins, S⇓, S-ERR, S-SKIP, S-ASSN, S-SEQ, S-IFT, S-IFB, S-WHILET, S-WHILEF, S-THROW, S-TRY, S-CATCH}
 use Rattle.imp.specs.Rules.CutOff.{C⇓, C-SPENT, C-SEQ1, C-SEQ2, C-IFT, C-IFB, C-WHILE1, C-WHILE2, C-TRY, C-CATCH}
 use Rattle.imp.specs.Theorem.Begin as Begin
-use Rattle.imp.specs.Theorem.Begin.{state, runs-out}
+use Rattle.imp.specs.Theorem.Begin.{runs-out}
 use Rattle.imp.specs.Theorem.ImpExpressions.{derives-value, truth-is-derived}
 use Rattle.imp.specs.Theorem.ImpRun.{passes, turns-pass, derived, cut}
 

@@ -8,15 +8,11 @@ use Rattle.imp.specs.Condition.{Condition, holds}
 use Rattle.imp.specs.Routine.{Statement, skip, assign, sequence, if, while, throw, try, choice}
 use Rattle.imp.specs.Configure.{configure}
 use Rattle.imp.specs.State.{branch, State, live, ready, enter}
-use Rattle.imp.specs.Shared.{Settings, any, Shared, for, visited, where-true, begun, turns, shared}
+use Rattle.imp.specs.Shared.{Settings, any, Shared, for, visited, where-true, begun, turns, shared, Below}
 use Rattle.imp.specs.Theorem.Sets.{same-cond, and-true}
 use Rattle.imp.specs.Theorem.Begin.{enter-dead}
 use Rattle.imp.specs.Theorem.ImpRun.{passes}
 use Rattle.imp.specs.Theorem.Agreement.{agrees}
-
--- the settings of C are below N
-abbrev pub Below : ℕ → Settings → Type 0
-Below N C = (s : ℕ) → C s ≡ true → s < N
 
 abbrev pub alive : Shared → Settings
 alive Σ s = live ((Σ .at s) .outcome)

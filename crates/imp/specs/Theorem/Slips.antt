@@ -9,12 +9,12 @@ use lib.ListN.{set}
 use Rattle.imp.specs.Condition.{Condition, holds}
 use Rattle.imp.specs.Routine.{Arithmetic, Boolean, Statement, while, throw, try, choice}
 use Rattle.imp.specs.Configure.{configure}
-use Rattle.imp.specs.State.{branch, Numbers, Outcome, idle, done, fault, out, outcome-number, code, State, in-fault, thrown, taken, ready, enter}
+use Rattle.imp.specs.State.{branch, Numbers, Outcome, idle, done, fault, out, outcome-number, code, State, in-fault, thrown, taken, ready, enter, state}
 use Rattle.imp.specs.Plain as Plain
 use Rattle.imp.specs.Plain.{handled, run}
 use Rattle.imp.specs.Shared.{valueIn, truthIn, Settings, Shared, for, visited, where-true, shared}
 use Rattle.imp.specs.Theorem.Sets.{same-cond}
-use Rattle.imp.specs.Theorem.Begin.{state, begun-yes, begun-no, begins, live-entered}
+use Rattle.imp.specs.Theorem.Begin.{begun-yes, begun-no, begins, live-entered}
 use Rattle.imp.specs.Theorem.Agreement.{value-agrees, truth-agrees, agrees}
 use Rattle.imp.specs.Theorem.WhilePlain.{while-again}
 use Rattle.imp.specs.Theorem.WhileShared.{left, reached}

@@ -7,12 +7,12 @@ use lib.Dec.{ltb}
 use Rattle.imp.specs.Condition.{Condition}
 use Rattle.imp.specs.Routine.{Statement}
 use Rattle.imp.specs.Shared as Shared
-use Rattle.imp.specs.Shared.{Settings, any, Shared, shared}
+use Rattle.imp.specs.Shared.{Settings, any, Shared, shared, Below}
 use Rattle.imp.specs.Rules.Variational.{sat, unsat, _∩_, Store, Frame, Stack, erring, in-error, Counts, World, world, ctx, counted, made-out, begun, seen}
 use Rattle.imp.specs.Rules.Figure58.{Judgement, ⇓V, ⇓VS, Vimp, V-SAT, V-UNSAT}
 use Rattle.imp.specs.Theorem.Sets.{and-true, any-false}
 use Rattle.imp.specs.Theorem.WhileShared.{left, begun-some, begun-none}
-use Rattle.imp.specs.Theorem.Live.{Below, alive, was-alive, still, same-live}
+use Rattle.imp.specs.Theorem.Live.{alive, was-alive, still, same-live}
 use Rattle.imp.specs.Theorem.VimpWorlds.{Within, ctx-alive, ctx-in, left-is, reached-is, passed-is}
 
 -- every setting of P is in C

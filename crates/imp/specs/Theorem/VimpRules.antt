@@ -6,11 +6,11 @@ use mathlib.Core.Bool.{Bool, true, false, not, _&&_, false≢true}
 use Rattle.imp.specs.Condition.{Condition, holds}
 use Rattle.imp.specs.Routine.{Arithmetic, Boolean, Statement, skip, assign, sequence, if, throw, choice}
 use Rattle.imp.specs.State as State
-use Rattle.imp.specs.Shared.{Settings, any, Shared, valueIn, truthIn, for, where-true, where-false, shared}
+use Rattle.imp.specs.Shared.{Settings, any, Shared, valueIn, truthIn, for, where-true, where-false, shared, Below}
 use Rattle.imp.specs.Rules.Variational.{Varied, _∩_, negation, Store, update, whenTrue, whenFalse, Frame, Stack, erring, Counts, World, world, ctx, counted, made-out, begun, conf, seen}
 use Rattle.imp.specs.Rules.Figure58.{⇓V, V-SAT, V-UNSAT, VS-SKIP, VS-ASSN, VS-SEQ, VS-IF, VS-THROW, VS-CHC}
 use Rattle.imp.specs.Theorem.Sets.{and-true}
-use Rattle.imp.specs.Theorem.Live.{Below, alive, same-live, none-runs}
+use Rattle.imp.specs.Theorem.Live.{alive, same-live, none-runs}
 use Rattle.imp.specs.Theorem.VimpExpressions.{value-derives, truth-derives}
 use Rattle.imp.specs.Theorem.VimpWorlds.{Within}
 use Rattle.imp.specs.Theorem.VimpActs.{assigned-is, thrown-is}

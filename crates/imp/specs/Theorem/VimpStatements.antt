@@ -7,10 +7,9 @@ use mathlib.Core.Bool.{Bool, true, false, cond}
 use Rattle.imp.specs.Condition.{Condition}
 use Rattle.imp.specs.Routine.{Statement, skip, assign, sequence, if, while, throw, try, choice}
 use Rattle.imp.specs.State.{State, Numbers, idle, done, fresh, untouched}
-use Rattle.imp.specs.Shared.{Settings, shared, start, shared-run}
+use Rattle.imp.specs.Shared.{Settings, shared, start, shared-run, Below}
 use Rattle.imp.specs.Rules.Variational.{erring, in-error, World, world, counted, nothing-yet, at-start, outcome-in, conf, seen}
 use Rattle.imp.specs.Rules.Figure58.{⇓V, Vimp}
-use Rattle.imp.specs.Theorem.Live.{Below}
 use Rattle.imp.specs.Theorem.VimpDerived.{Derives, begins}
 use Rattle.imp.specs.Theorem.VimpRules.{acts-skip, acts-assign, acts-throw, acts-sequence, acts-if, derives-choice}
 use Rattle.imp.specs.Theorem.VimpTry.{acts-try}

@@ -6,11 +6,11 @@ use mathlib.Core.Bool.{Bool, true, false, true≢false, false≢true}
 use Rattle.imp.specs.Condition.{Condition}
 use Rattle.imp.specs.Routine.{Statement, try}
 use Rattle.imp.specs.State.{in-fault, taken}
-use Rattle.imp.specs.Shared.{Settings, Shared, for, where-true, shared}
+use Rattle.imp.specs.Shared.{Settings, Shared, for, where-true, shared, Below}
 use Rattle.imp.specs.Rules.Variational.{Store, update, Frame, Stack, erring, catchCtx, extract, Counts, World, world, ctx, seen}
 use Rattle.imp.specs.Rules.Figure58.{⇓V, ⇓VS, Vimp, VS-TRY, VS-CATCH}
 use Rattle.imp.specs.Theorem.Sets.{and-true}
-use Rattle.imp.specs.Theorem.Live.{Below, same-live, none-runs}
+use Rattle.imp.specs.Theorem.Live.{same-live, none-runs}
 use Rattle.imp.specs.Theorem.VimpWorlds.{Within, ctx-in}
 use Rattle.imp.specs.Theorem.VimpActs.{caught-is, taken-is, empty-frame, empty-ctx, nobody-caught}
 use Rattle.imp.specs.Theorem.VimpDerived.{Derived, Derives, Acts, within-below, ctx-within, live-same}

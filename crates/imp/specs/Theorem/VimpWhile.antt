@@ -6,14 +6,12 @@ use mathlib.Core.Bool.{true}
 use native.Mathlib.Omega.{arith}
 use Rattle.imp.specs.Condition.{Condition}
 use Rattle.imp.specs.Routine.{Boolean, Statement, while}
-use Rattle.imp.specs.Shared.{Settings, Shared, truthIn, where-true, shared}
+use Rattle.imp.specs.Shared.{Settings, Shared, truthIn, where-true, shared, steps-at, Below}
 use Rattle.imp.specs.Rules.Variational.{sat, _∩_, Store, whenTrue, Frame, Stack, Counts, World, world, ctx, counted, made-out, begun, conf, seen}
 use Rattle.imp.specs.Rules.Figure58.{⇓V, ⇓VS, VS-WHILE}
 use Rattle.imp.specs.Theorem.Sets.{any-true}
 use Rattle.imp.specs.Theorem.Begin.{ready-lt}
-use Rattle.imp.specs.Theorem.Bounds.{steps-at}
 use Rattle.imp.specs.Theorem.WhileShared.{left-in, while-again, shared-grows}
-use Rattle.imp.specs.Theorem.Live.{Below}
 use Rattle.imp.specs.Theorem.VimpExpressions.{truth-derives}
 use Rattle.imp.specs.Theorem.VimpWorlds.{Within, left-is}
 use Rattle.imp.specs.Theorem.VimpDerived.{Inside, part-in, Derived, Derives, showing, ctx-within, were-live, made-out-live, begins, in-turn}

@@ -10,12 +10,11 @@ use Rattle.imp.specs.Routine.{Boolean, Statement, while}
 use Rattle.imp.specs.Configure.{configure}
 use Rattle.imp.specs.State.{State, ready, enter}
 use Rattle.imp.specs.Plain.{run}
-use Rattle.imp.specs.Shared.{truthIn, Settings, any, Shared, for, visited, where-true, begun, turns, shared}
+use Rattle.imp.specs.Shared.{truthIn, Settings, any, Shared, for, visited, where-true, begun, turns, shared, steps-at}
 use Rattle.imp.specs.Theorem.Sets.{and-true, any-true}
 use Rattle.imp.specs.Theorem.Begin.{ready-lt, enter-steps}
 use Rattle.imp.specs.Theorem.Keep as Keep
 use Rattle.imp.specs.Theorem.Agreement.{agrees}
-use Rattle.imp.specs.Theorem.Bounds.{steps-at}
 
 -- steps never fall
 pub record Grows (N : ℕ) (f : Settings → Shared → Shared) : Type 0 where

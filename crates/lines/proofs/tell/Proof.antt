@@ -13,7 +13,7 @@ use Rattle.image.specs.Records.{header}
 use Rattle.image.specs.Rows.{answer, judge, check-rows}
 use Rattle.image.specs.Check.{answer-of, shape-of}
 use Rattle.image.specs.Sets.{settings}
-use Rattle.image.specs.Theorem.Accepted.{Accepted}
+use Rattle.image.specs.Accepted.{Accepted}
 use Rattle.image.specs.Theorem.Checked.{good-accepted, good-shape}
 use Rattle.lines.specs.Text.{refusal-line, set-in, budget-in, report-rows, told, run-text, text}
 use Rattle.lines.proofs.Putting.{same}

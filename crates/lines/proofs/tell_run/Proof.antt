@@ -8,7 +8,7 @@ use Rattle.image.specs.Sets.{settings}
 use Rattle.shared.specs.declared.SharedRun.{SharedRun}
 use Rattle.shared.specs.Lent.{Tally, tally}
 use Rattle.shared.specs.SharedRun.{SharedRuns, shared-rows}
-use Rattle.lines.specs.Telling.{tallied}
+use Rattle.lines.specs.Inner.Telling.{tallied}
 use Rattle.lines.specs.Text.{blank}
 use Rattle.lines.proofs.Putting.{then, same}
 use Rattle.lines.proofs.Telling.{tell-refused, tell-ended}

@@ -9,8 +9,8 @@ use Rattle.image.specs.Layout.{is-choice}
 use Rattle.image.specs.Records.{header, node}
 use Rattle.image.specs.Rows.{answer, judge, lowest, check-rows}
 use Rattle.image.specs.Check.{answer-of, shape-of}
-use Rattle.image.specs.Whole.{Whole}
-use Rattle.image.specs.Theorem.Accepted.{Accepted}
+use Rattle.image.specs.Inner.Whole.{Whole}
+use Rattle.image.specs.Accepted.{Accepted}
 use Rattle.image.specs.Theorem.Checked.{good-accepted, good-shape}
 use Rattle.plain.proofs.Plainly.{refused-first, choice-held, goes-on}
 use Rattle.plain.proofs.plain_run.Statement.{statement}

@@ -12,9 +12,9 @@ use Rattle.image.specs.declared.accept.Shape.{Shape}
 use Rattle.image.specs.Records.{header}
 use Rattle.image.specs.Check.{shape-of}
 use Rattle.image.specs.Sets.{settings}
-use Rattle.image.specs.Theorem.Accepted.{Accepted}
+use Rattle.image.specs.Accepted.{Accepted}
 use Rattle.image.specs.Theorem.Held.{root-class}
-use Rattle.plain.specs.Progress.{outcome-from, Proper}
+use Rattle.plain.specs.Inner.Progress.{outcome-from, Proper}
 use Rattle.plain.proofs.Plainly as plainly
 use Rattle.plain.proofs.run_accepted.Statement.{statement}
 use Rattle.plain.proofs.run_accepted.Tie as tie

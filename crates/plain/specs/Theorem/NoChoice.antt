@@ -17,7 +17,7 @@ use Rattle.image.specs.Records.{header, node}
 use Rattle.image.specs.Layout.{kinds, layout, is-choice}
 use Rattle.image.specs.Rows.{lowest, lowest-row}
 use Rattle.image.specs.Tree.{kind-of, condition, Read, an-arithmetic, a-boolean, a-statement, reading, read-below, read, routine}
-use Rattle.image.specs.Theorem.Accepted.{Accepted}
+use Rattle.image.specs.Accepted.{Accepted}
 use Rattle.image.specs.Theorem.Lower.{fitted}
 use Rattle.image.specs.Theorem.Kinds.{kind-cases}
 use Rattle.image.specs.Theorem.Choosing.{choice-condition}

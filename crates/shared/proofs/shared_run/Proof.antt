@@ -6,7 +6,7 @@ use borrow.Author.Needs.{needs}
 use Rattle.image.specs.declared.accept.Shape.{Shape}
 use Rattle.image.specs.Rows.{answer, judge, check-rows}
 use Rattle.image.specs.Check.{answer-of, shape-of}
-use Rattle.image.specs.Theorem.Accepted.{Accepted}
+use Rattle.image.specs.Accepted.{Accepted}
 use Rattle.image.specs.Theorem.Checked.{good-accepted, good-shape}
 use Rattle.shared.specs.Lent.{tally}
 use Rattle.shared.proofs.Entry.{refused-first, goes-on}

@@ -7,8 +7,8 @@ use native.Mathlib.Decide.{ℕ-discrete}
 use lib.ListN.{length, getD, set, length-set}
 use lib.Seq.{getD-set-same, getD-set-other}
 use Rattle.image.specs.Term.{size}
-use Rattle.configure.specs.Term.{term-at}
-use Rattle.configure.specs.Sizing.{SizesOf}
+use Rattle.configure.specs.Inner.Term.{term-at}
+use Rattle.configure.specs.Inner.Sizing.{SizesOf}
 use Rattle.configure.proofs.sizes.configured_size.Statement.{statement}
 use Rattle.configure.proofs.sizes.configured_size.Tie as tie
 

@@ -13,9 +13,10 @@ use Rattle.image.specs.Records.{header, node}
 use Rattle.image.specs.Layout.{layout, a-digit, b-digit, c-digit, names-node, is-choice}
 use Rattle.image.specs.Tree.{condition}
 use Rattle.image.specs.Term.{size, branch-size}
-use Rattle.image.specs.Theorem.Lower.{Lower, lower}
-use Rattle.configure.specs.Term.{hang, term-at}
-use Rattle.configure.specs.Sizing.{SizesOf}
+use Rattle.image.specs.Inner.Lower.{Lower}
+use Rattle.image.specs.Theorem.Lower.{lower}
+use Rattle.configure.specs.Inner.Term.{hang, term-at}
+use Rattle.configure.specs.Inner.Sizing.{SizesOf}
 use Rattle.configure.specs.Theorem.Terms.{choice-term, node-term}
 use Rattle.configure.specs.Theorem.Small.{size-small}
 use Rattle.image.specs.Theorem.Choosing.{choice-condition, choice-b, choice-c, chosen-is}

@@ -10,8 +10,8 @@ use borrow.Author.Needs.{needs}
 use Rattle.image.specs.declared.records.Node.{Node}
 use Rattle.image.specs.Layout.{names-node}
 use Rattle.image.specs.Term.{size, branch-size}
-use Rattle.configure.specs.Term.{term-at}
-use Rattle.configure.specs.Writing.{Writing, hung, SlotWriting}
+use Rattle.configure.specs.Inner.Term.{term-at}
+use Rattle.configure.specs.Inner.Writing.{Writing, hung, SlotWriting}
 use Rattle.configure.proofs.Branches.{child-writing, child-wrote, none-wrote}
 use Rattle.configure.proofs.Nodes as Nodes
 use borrow.Fn.Kinds.{In}

@@ -2,7 +2,7 @@
 use mathlib.Core.Path.{sym, _∙_}
 use native.Mathlib.Omega.{arith}
 use borrow.Author.Needs.{needs}
-use Rattle.configure.specs.Writing.{named}
+use Rattle.configure.specs.Inner.Writing.{named}
 use Rattle.configure.proofs.write.name.Statement.{statement}
 use Rattle.configure.proofs.write.name.Tie as tie
 

@@ -5,7 +5,7 @@ use Prim.Native.Nat.{ℕ, _-_, _≤_, _<_}
 use native.Mathlib.Omega.{arith}
 use borrow.Author.Needs.{needs}
 use Rattle.image.specs.Layout.{names-node}
-use Rattle.configure.specs.Writing.{named, own-word}
+use Rattle.configure.specs.Inner.Writing.{named, own-word}
 use Rattle.configure.proofs.write.own_word.Statement.{statement}
 use Rattle.configure.proofs.write.own_word.Tie as tie
 

@@ -9,7 +9,7 @@ use Rattle.image.specs.declared.accept.Shape.{Shape}
 use Rattle.image.specs.Bytes.{Bytes}
 use Rattle.image.specs.Records.{condition-record, node}
 use Rattle.image.specs.Rows.{Row, Answer, judge, lowest-row, condition-fits, node-fits, classed, named-wrong, check-rows}
-use Rattle.image.specs.Whole.{Fitting}
+use Rattle.image.specs.Inner.Whole.{Fitting}
 use Rattle.image.specs.Check.{shape-of}
 use Rattle.image.specs.Theorem.Lowest.{all-pass}
 use Rattle.image.proofs.Judged.{found, not-found}

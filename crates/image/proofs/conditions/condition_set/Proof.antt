@@ -11,7 +11,8 @@ use Rattle.image.specs.Records.{header}
 use Rattle.image.specs.Rows.{refused, answer, judge, check-rows}
 use Rattle.image.specs.Check.{answer-of, shape-of}
 use Rattle.image.specs.Sets.{in-condition, condition-rows}
-use Rattle.image.specs.Theorem.Accepted.{Accepted, accepts}
+use Rattle.image.specs.Accepted.{Accepted}
+use Rattle.image.specs.Theorem.Accepted.{accepts}
 use Rattle.image.specs.Theorem.Checked.{good-accepted, good-shape}
 use Rattle.image.specs.Theorem.Then.{judge-then, judge-stops}
 use Rattle.image.proofs.conditions.condition_set.Statement.{statement}

@@ -11,7 +11,8 @@ use borrow.Author.Needs.{needs}
 use Rattle.sets.specs.Member.{bit}
 use Rattle.image.specs.Records.{header}
 use Rattle.image.specs.Check.{shape-of}
-use Rattle.image.specs.Sets.{settings, in-condition, SetsOf}
+use Rattle.image.specs.Sets.{settings, in-condition}
+use Rattle.image.specs.Inner.SetsOf.{SetsOf}
 use Rattle.image.proofs.conditions.condition_sets.Statement.{statement}
 use Rattle.image.proofs.conditions.condition_sets.Tie as tie
 

@@ -7,7 +7,8 @@ use borrow.Author.Needs.{needs}
 use borrow.Author.Tests.{eq-eqb, ne-eqb}
 use Rattle.image.specs.Records.{header}
 use Rattle.image.specs.Rows.{class, classed}
-use Rattle.image.specs.Theorem.Lower.{Lower, lower}
+use Rattle.image.specs.Inner.Lower.{Lower}
+use Rattle.image.specs.Theorem.Lower.{lower}
 use Rattle.image.proofs.fits.classed.Statement.{statement}
 use Rattle.image.proofs.fits.classed.Tie as tie
 

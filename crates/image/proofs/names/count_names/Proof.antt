@@ -6,7 +6,8 @@ use native.Mathlib.Numerals.{add-one}
 use lib.ListN.{length, getD}
 use Rattle.image.specs.Records.{node}
 use Rattle.image.specs.Rows.{names}
-use Rattle.image.specs.Theorem.Lower.{Lower, lower, lower-more}
+use Rattle.image.specs.Inner.Lower.{Lower}
+use Rattle.image.specs.Theorem.Lower.{lower, lower-more}
 use Rattle.image.proofs.Counting.{names-le}
 use Rattle.image.proofs.names.count_names.Statement.{statement}
 use Rattle.image.proofs.names.count_names.Tie as tie

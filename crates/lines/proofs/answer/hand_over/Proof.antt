@@ -8,8 +8,9 @@ use lib.Seq.{sets-eq, length-take-le}
 use borrow.Author.Needs.{needs}
 use borrow.Author.Tests.{lt-ltb, le-ltb}
 use Rattle.lines.specs.declared.answer.Report.the-variants.{Text, Short}
-use Rattle.lines.specs.Puts.{Puts}
-use Rattle.lines.specs.Report.{over, Reports}
+use Rattle.lines.specs.Inner.Puts.{Puts}
+use Rattle.image.specs.Bytes.{over}
+use Rattle.lines.specs.Report.{Reports}
 use Rattle.lines.proofs.answer.hand_over.Statement.{statement}
 use Rattle.lines.proofs.answer.hand_over.Tie as tie
 

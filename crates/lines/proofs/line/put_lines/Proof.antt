@@ -9,8 +9,8 @@ use mir.Val.{SFits, toZ, ofZ}
 use mir.Facts.{toZ-ofZ}
 use borrow.Author.Needs.{needs}
 use Rattle.shared.specs.Lent.{Tally, tally, progress}
-use Rattle.lines.specs.Puts.{Puts}
-use Rattle.lines.specs.Telling.{tallied}
+use Rattle.lines.specs.Inner.Puts.{Puts}
+use Rattle.lines.specs.Inner.Telling.{tallied}
 use Rattle.lines.specs.Text.{line}
 use Rattle.lines.proofs.Putting.{then, same}
 use Rattle.lines.proofs.Lengths.{line-length}

@@ -4,8 +4,8 @@ use native.Mathlib.Omega.{arith}
 use borrow.Author.Needs.{needs}
 use borrow.Author.Tests.{eq-eqb}
 use Rattle.image.specs.Layout.{kinds, layout, names-node, is-choice}
-use Rattle.plain.specs.Progress.{state-of}
-use Rattle.plain.specs.Running.{Began}
+use Rattle.plain.specs.Inner.Progress.{state-of}
+use Rattle.plain.specs.Inner.Running.{Began}
 use Rattle.plain.proofs.Beginning.{stays, charged}
 use Rattle.plain.proofs.Evaluation.{At, room, call-a, call-b, call-c, call-chosen, call-decided, set-there, statement-kind}
 use Rattle.plain.proofs.Statements.{last-kind, does, child-run, arrives, on, handled-none, handled-by, stored-below, choice-does, while-does, skip-does, assign-does, sequence-does, if-does, throw-does, try-does}

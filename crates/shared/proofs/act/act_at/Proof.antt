@@ -2,9 +2,9 @@
 use mathlib.Core.Path.{sym, _∙_, ap₂}
 use borrow.Author.Needs.{needs}
 use borrow.Author.Tests.{not-true, not-false}
-use Rattle.plain.specs.Progress.{state-of}
+use Rattle.plain.specs.Inner.Progress.{state-of}
 use Rattle.plain.proofs.Statements.{arrives}
-use Rattle.shared.specs.Acting.{acting}
+use Rattle.shared.specs.Inner.Acting.{acting}
 use Rattle.shared.proofs.Acts.{not-acted, acted}
 use Rattle.shared.proofs.Own.{acts, there}
 use Rattle.shared.proofs.Parts.{part-is, part-length}

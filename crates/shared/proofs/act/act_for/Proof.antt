@@ -5,8 +5,9 @@ use native.Mathlib.Omega.{arith}
 use native.Mathlib.Numerals.{add-one}
 use borrow.Author.Needs.{needs}
 use Rattle.sets.specs.Member.{bit}
-use Rattle.shared.specs.Lent.{tally, Lent, own}
-use Rattle.shared.specs.Acting.{acting}
+use Rattle.shared.specs.Lent.{tally}
+use Rattle.shared.specs.Inner.Lent.{Lent, own}
+use Rattle.shared.specs.Inner.Acting.{acting}
 use Rattle.shared.proofs.Acts.{acted-for}
 use Rattle.shared.proofs.Each.{Upto, upto-none, upto-next}
 use Rattle.shared.proofs.Own.{still}

@@ -1,7 +1,7 @@
 -- `ask` meets its contract: a try asks for a fault, every other its test.
 use mathlib.Core.Path.{refl}
 use borrow.Author.Tests.{eq-eqb, ne-eqb}
-use Rattle.shared.specs.Asking.{asking}
+use Rattle.shared.specs.Inner.Asking.{asking}
 use Rattle.shared.proofs.ask.ask.Statement.{statement}
 use Rattle.shared.proofs.ask.ask.Tie as tie
 

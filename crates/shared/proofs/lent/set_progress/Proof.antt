@@ -3,7 +3,8 @@ use mathlib.Core.Path.{refl, ap}
 use lib.ListN.{set}
 use borrow.Author.Needs.{needs}
 use Rattle.plain.proofs.Evaluation.{through}
-use Rattle.shared.specs.Lent.{tally, put}
+use Rattle.shared.specs.Lent.{tally}
+use Rattle.shared.specs.Inner.Lent.{put}
 use Rattle.shared.proofs.lent.set_progress.Statement.{statement}
 use Rattle.shared.proofs.lent.set_progress.Tie as tie
 

@@ -11,8 +11,9 @@ use Rattle.image.specs.declared.records.Node.{Node}
 use Rattle.image.specs.Bytes.{Bytes}
 use Rattle.shared.specs.declared.plan.Plan.{Plan}
 use Rattle.shared.specs.declared.turn.Turn.{Turn}
-use Rattle.shared.specs.Lent.{Tally, tally, as-shared}
-use Rattle.shared.specs.Sharing.{Sharing, sharing}
+use Rattle.shared.specs.Lent.{Tally, tally}
+use Rattle.shared.specs.Inner.Lent.{as-shared}
+use Rattle.shared.specs.Inner.Sharing.{Sharing, sharing}
 use Rattle.shared.proofs.Members.{any-members}
 use Rattle.shared.proofs.Begun.{does}
 use Rattle.shared.proofs.Keeping.{begun-on, no-more}

@@ -3,7 +3,7 @@ use native.Mathlib.Omega.{arith}
 use borrow.Author.Needs.{needs}
 use Rattle.sets.specs.Member.{bit}
 use Rattle.shared.specs.Lent.{tally}
-use Rattle.shared.specs.Sharing.{sharing}
+use Rattle.shared.specs.Inner.Sharing.{sharing}
 use Rattle.shared.proofs.Made.{made-of, rem-of, sharing-for, shares-for}
 use Rattle.shared.proofs.Keeping.{after-run, then-shares}
 use Prim.Native.Nat.{ℕ}

@@ -7,8 +7,8 @@ use borrow.Author.Tests.{not-true}
 use Rattle.sets.specs.Member.{bit}
 use Rattle.imp.specs.Shared.{any, for, begun}
 use Rattle.image.specs.Layout.{kinds, layout, names-node}
-use Rattle.shared.specs.Acting.{acting}
-use Rattle.shared.specs.Sharing.{following, deciding, turning, trying}
+use Rattle.shared.specs.Inner.Acting.{acting}
+use Rattle.shared.specs.Inner.Sharing.{following, deciding, turning, trying}
 use Rattle.shared.proofs.Members.{any-members}
 use Rattle.shared.proofs.Begun.{does-nothing}
 use Rattle.shared.proofs.Keeping.{reaching, can-begin, begun-on}

@@ -9,16 +9,15 @@ use Rattle.sets.specs.Member.{bit}
 use Rattle.imp.specs.Routine.{while}
 use Rattle.imp.specs.Condition.{holds}
 use Rattle.imp.specs.State.{State, in-fault, taken}
-use Rattle.imp.specs.Shared.{truthIn, Settings, Shared, for, where-true, where-false, shared}
-use Rattle.imp.specs.Theorem.Bounds.{total, steps-at}
-use Rattle.imp.specs.Theorem.Live.{Below}
+use Rattle.imp.specs.Shared.{truthIn, Settings, Shared, for, where-true, where-false, shared, total, steps-at, Below}
 use Rattle.image.specs.declared.records.Node.{Node}
 use Rattle.image.specs.Bytes.{Bytes}
 use Rattle.image.specs.Records.{header}
 use Rattle.image.specs.Tree.{condition, read}
 use Rattle.shared.specs.declared.plan.Plan.{Plan}
-use Rattle.shared.specs.Lent.{Tally, Lent, progress, as-shared}
-use Rattle.shared.specs.Prepared.{Prepared, OfClass}
+use Rattle.shared.specs.Lent.{Tally, progress}
+use Rattle.shared.specs.Inner.Lent.{Lent, as-shared}
+use Rattle.shared.specs.Inner.Prepared.{Prepared, OfClass}
 
 -- no more steps than the budget, no more visits than steps: the visits can be counted
 pub record Within (N budget : ℕ) (Σ : Shared) : Type 0 where

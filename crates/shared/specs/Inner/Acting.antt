@@ -9,18 +9,18 @@ use lib.ListN.{length}
 use Rattle.sets.specs.declared.Set.{Set}
 use Rattle.sets.specs.Member.{bit}
 use Rattle.imp.specs.State.{State, store, thrown, taken}
-use Rattle.imp.specs.Shared.{valueIn, for}
-use Rattle.imp.specs.Theorem.Live.{Below}
+use Rattle.imp.specs.Shared.{valueIn, for, Below}
 use Rattle.image.specs.declared.records.Node.{Node}
 use Rattle.image.specs.Bytes.{Bytes}
 use Rattle.image.specs.Tree.{read}
 use Rattle.plain.specs.declared.progress.Progress.{Progress}
-use Rattle.plain.specs.Evaluating.{Evaluating}
-use Rattle.plain.specs.Progress.{Proper}
+use Rattle.plain.specs.Inner.Evaluating.{Evaluating}
+use Rattle.plain.specs.Inner.Progress.{Proper}
 use Rattle.shared.specs.declared.plan.Plan.{Plan}
-use Rattle.shared.specs.Lent.{Tally, Lent, own, as-shared}
-use Rattle.shared.specs.Each.{Only}
-use Rattle.shared.specs.Prepared.{Prepared, OfClass}
+use Rattle.shared.specs.Lent.{Tally}
+use Rattle.shared.specs.Inner.Lent.{Lent, own, as-shared}
+use Rattle.shared.specs.Inner.Each.{Only}
+use Rattle.shared.specs.Inner.Prepared.{Prepared, OfClass}
 
 -- the change in setting s
 unfoldable pub acting : Bytes → Node → ℕ → State → State

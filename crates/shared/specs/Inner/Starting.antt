@@ -9,7 +9,8 @@ use Rattle.sets.specs.declared.Set.{Set}
 use Rattle.sets.specs.Member.{bit}
 use Rattle.imp.specs.Shared.{start}
 use Rattle.plain.specs.declared.progress.Progress.{Progress}
-use Rattle.shared.specs.Lent.{Tally, Tallied, part, as-shared}
+use Rattle.shared.specs.Lent.{Tally, part}
+use Rattle.shared.specs.Inner.Lent.{Tallied, as-shared}
 
 -- N of each, whatever they are
 pub record Sized (N : ℕ) (T : Tally) : Type 0 where

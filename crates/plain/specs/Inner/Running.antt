@@ -12,8 +12,8 @@ use Rattle.imp.specs.Plain.{truth, handled, run}
 use Rattle.imp.specs.Routine.{while}
 use Rattle.imp.specs.State.{Numbers, State, branch, enter}
 use Rattle.plain.specs.declared.progress.Progress.{Progress}
-use Rattle.plain.specs.Evaluating.{Evaluating}
-use Rattle.plain.specs.Progress.{Proper, state-of}
+use Rattle.plain.specs.Inner.Evaluating.{Evaluating}
+use Rattle.plain.specs.Inner.Progress.{Proper, state-of}
 
 -- a statement is run: node n, from where the setting is
 pub record Running (l : Bytes) (conditions : ℕ) (sets : List ℕ) (s n : ℕ) (p : Progress) (numbers : List ℤ) : Type 0 where

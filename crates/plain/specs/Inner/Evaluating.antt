@@ -7,7 +7,7 @@ use lib.ListN.{length}
 use Rattle.image.specs.Bytes.{Bytes}
 use Rattle.image.specs.Records.{header}
 use Rattle.image.specs.Rows.{class}
-use Rattle.image.specs.Ready.{Ready}
+use Rattle.image.specs.Inner.Ready.{Ready}
 
 pub record Evaluating (l : Bytes) (conditions : ℕ) (sets : List ℕ) (s n of-class : ℕ) (numbers : List ℤ) : Type 0 where
   pub ready : Ready l conditions sets s

@@ -9,9 +9,9 @@ use Rattle.image.specs.declared.records.Node.{Node}
 use Rattle.image.specs.Bytes.{Bytes}
 use Rattle.image.specs.Records.{header}
 use Rattle.image.specs.Layout.{layout, a-digit, b-digit, c-digit, names-node}
-use Rattle.image.specs.Ready.{Ready}
+use Rattle.image.specs.Inner.Ready.{Ready}
 use Rattle.image.specs.Term.{Branch, size, branch-size, node-word, words, branch-words, all-bytes}
-use Rattle.configure.specs.Term.{hang, term-at}
+use Rattle.configure.specs.Inner.Term.{hang, term-at}
 
 -- node n is to be written as nodes `at` and on, and there is space for it
 pub record Writing (l : Bytes) (conditions : ℕ) (condition-sets : List ℕ) (s n at space : ℕ) : Type 0 where

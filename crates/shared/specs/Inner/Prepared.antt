@@ -5,7 +5,7 @@ use mathlib.Core.List.{List}
 use Rattle.image.specs.Bytes.{Bytes}
 use Rattle.image.specs.Records.{header}
 use Rattle.image.specs.Rows.{class}
-use Rattle.image.specs.Ready.{Ready}
+use Rattle.image.specs.Inner.Ready.{Ready}
 use Rattle.image.specs.Sets.{settings}
 use Rattle.shared.specs.declared.plan.Plan.{Plan}
 

@@ -9,14 +9,13 @@ use lib.ListN.{length}
 use Rattle.sets.specs.declared.Set.{Set}
 use Rattle.sets.specs.Member.{bit}
 use Rattle.imp.specs.State.{Numbers}
-use Rattle.imp.specs.Shared.{truthIn}
-use Rattle.imp.specs.Theorem.Live.{Below}
+use Rattle.imp.specs.Shared.{truthIn, Below}
 use Rattle.image.specs.declared.records.Node.{Node}
 use Rattle.image.specs.Bytes.{Bytes}
 use Rattle.image.specs.Tree.{read}
-use Rattle.plain.specs.Evaluating.{Evaluating}
+use Rattle.plain.specs.Inner.Evaluating.{Evaluating}
 use Rattle.shared.specs.declared.plan.Plan.{Plan}
-use Rattle.shared.specs.Prepared.{Prepared, OfClass}
+use Rattle.shared.specs.Inner.Prepared.{Prepared, OfClass}
 
 -- the answer in setting s, by its outcome's number and its numbers: of a try whether its body ended in fault, else the test
 unfoldable pub asking : Bytes → Node → ℕ → ℕ → Numbers → Bool

@@ -5,8 +5,9 @@ use mathlib.Core.List.{List}
 use lib.ListN.{length}
 use Rattle.image.specs.Bytes.{Bytes}
 use Rattle.image.specs.Records.{header}
-use Rattle.image.specs.Sets.{settings, SetsOf}
-use Rattle.image.specs.Theorem.Accepted.{Accepted}
+use Rattle.image.specs.Sets.{settings}
+use Rattle.image.specs.Inner.SetsOf.{SetsOf}
+use Rattle.image.specs.Accepted.{Accepted}
 
 pub record Ready (l : Bytes) (conditions : ℕ) (condition-sets : List ℕ) (s : ℕ) : Type 0 where
   pub accepted : Accepted l

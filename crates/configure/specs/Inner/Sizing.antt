@@ -6,8 +6,8 @@ use lib.ListN.{length, getD}
 use Rattle.image.specs.Bytes.{Bytes}
 use Rattle.image.specs.Records.{header}
 use Rattle.image.specs.Term.{size}
-use Rattle.configure.specs.Term.{term-at}
-use Rattle.image.specs.Ready.{Ready}
+use Rattle.configure.specs.Inner.Term.{term-at}
+use Rattle.image.specs.Inner.Ready.{Ready}
 
 -- the sizes of the terms of the first n nodes
 pub record SizesOf (l : Bytes) (s n : ℕ) (sizes : List ℕ) : Type 0 where

@@ -9,11 +9,11 @@ use Rattle.sets.specs.declared.Set.{Set}
 use Rattle.sets.specs.Member.{bit}
 use Rattle.imp.specs.Routine.{skip}
 use Rattle.imp.specs.State.{ready, enter}
-use Rattle.imp.specs.Shared.{any, where-true, shared}
-use Rattle.imp.specs.Theorem.Live.{Below}
+use Rattle.imp.specs.Shared.{any, where-true, shared, Below}
 use Rattle.shared.specs.declared.turn.Turn.{Turn}
-use Rattle.shared.specs.Lent.{Tally, Tallied, progress, own, as-shared}
-use Rattle.shared.specs.Each.{Only}
+use Rattle.shared.specs.Lent.{Tally, progress}
+use Rattle.shared.specs.Inner.Lent.{Tallied, own, as-shared}
+use Rattle.shared.specs.Inner.Each.{Only}
 
 -- ---- one setting
 
