@@ -10,6 +10,7 @@ pub mod WhileShared
 pub mod ImpExpressions
 pub mod ImpRun
 pub mod ImpStatements
+pub mod DerivedOrCut
 pub mod Configured
 pub mod Beyond
 pub mod Range
@@ -23,5 +24,9 @@ pub mod VimpRules
 pub mod VimpTry
 pub mod VimpWhile
 pub mod VimpStatements
+pub mod RulesAgree
 pub mod Table
+pub mod Clauses
+pub mod ClausesState
+pub mod ClausesRules
 pub mod Slips

@@ -6,7 +6,7 @@ use mathlib.Core.Bool.{Bool, true, false, not, _&&_, cond, true≢false}
 use Rattle.imp.specs.Condition.{Condition, holds}
 use Rattle.imp.specs.Routine.{Arithmetic, number, variable, sum, pick, choiceᵃ, Boolean, falseᵇ, trueᵇ, notᵇ, andᵇ, less, choiceᵇ, Statement, skip, assign, sequence, if, while, throw, try, choice}
 use Rattle.imp.specs.Configure.{configure, configureᵃ, configureᵇ}
-use Rattle.imp.specs.State.{branch, Numbers, State, in-fault, taken, ready, enter, untouched}
+use Rattle.imp.specs.State.{branch, Numbers, idle, State, in-fault, taken, ready, enter, untouched}
 use Rattle.imp.specs.Plain as Plain
 use Rattle.imp.specs.Plain.{value, truth, run, plain-run}
 use Rattle.imp.specs.Shared.{valueIn, truthIn, Settings, any, Shared, for, visited, where-true, where-false, begun, turns, shared, start, shared-run}
@@ -164,3 +164,10 @@ module _ (N budget : ℕ) (t : Statement Condition) (S : Settings) (numbers : �
   pub outside : S s ≡ false → (shared-run N budget t S numbers) .at s ≡ untouched (numbers s)
   unfolding shared-run start
   outside e = (agrees N budget s h t) .agree S (start S numbers) ∙ rw e
+
+  -- the same fact by fact: its numbers as given, idle, 0 steps
+  pub outside-keeps : S s ≡ false
+      → (let end : State = (shared-run N budget t S numbers) .at s in
+      (end .numbers ≡ numbers s) × (end .outcome ≡ idle) × (end .steps ≡ 0))
+  unfolding untouched
+  outside-keeps e = rw (outside e) (refl, refl, refl)

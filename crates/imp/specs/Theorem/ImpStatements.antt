@@ -22,7 +22,7 @@ use Rattle.imp.specs.Theorem.ImpRun.{passes, turns-pass, derived, cut}
 -- ---- what is run is derived, or cut off
 
 -- s, begun from S after n steps, ends by the rules within the budget b, or is cut off
-data Ended (b : ℕ) (s : Statement ⊥) (S : Numbers) (n : ℕ) : State → Type 0 where
+pub data Ended (b : ℕ) (s : Statement ⊥) (S : Numbers) (n : ℕ) : State → Type 0 where
   by-rule : (E : Context) (m : ℕ) {S′ : Numbers} {k : ℕ} → S⇓ • S s E S′ k → n + k ≡ m → m ≤ b → Ended b s S n (state S′ (outcome-of E) m)
   cut-off : {S′ : Numbers} {r : ℕ} → C⇓ S s S′ r → n + r ≡ b → Ended b s S n (state S′ out b)
 
@@ -123,7 +123,7 @@ module _ (b : ℕ) where
         go p true t d = turn-ended (suc j) S n t d (c S (suc n) p)
         go p false t d = by-rule • (suc n) (S-WHILEF t) (omega arith) p
 
-complete : (b : ℕ) (s : Statement ⊥) → Ends b s (run b s)
+pub complete : (b : ℕ) (s : Statement ⊥) → Ends b s (run b s)
 unfolding run store thrown test begins outcome-of
 complete b skip S n h = at-begin b _ _ S n h λ p. by-rule • (suc n) S-SKIP (omega arith) p
 complete b (assign v a) S n h = at-begin b _ _ S n h λ p. by-rule • (suc n) (S-ASSN (derives-value a S)) (omega arith) p
@@ -136,7 +136,7 @@ complete b (choice c x y) S n h = absurd c
 
 -- ---- the theorems, of a run from its start
 
-not-out : (E : Context) → outcome-of E ≡ out → ⊥
+pub not-out : (E : Context) → outcome-of E ≡ out → ⊥
 unfolding outcome-of
 not-out • e = let z : _≡_ {A = ℕ} 0 1 = cc in omega arith
 not-out (error n) e = let z : _≡_ {A = ℕ} 0 1 = cc in omega arith
