@@ -1,14 +1,14 @@
 -- A node that is to be written: what may be written for its chosen part or for its children, and what is left once they are written.
 use mathlib.Core.Path.{_≡_, sym, _∙_, ap}
-use mathlib.Core.Bool.{Bool, true, cond, false≢true}
+use mathlib.Core.Bool.{true, false, cond, false≢true}
 use Prim.Native.Nat.{ℕ, suc, _+_, _*_, _≤_, _<_}
 use mathlib.Core.List.{List}
 use native.Mathlib.Omega.{arith}
 use native.Mathlib.Decide.{decLt}
 use lib.Dec.{eqb}
-use lib.ListN.{length, getD, List·getD-eq-default}
+use lib.ListN.{getD, List·getD-eq-default}
 use lib.Seq.{sets}
-use borrow.Author.Tests.{eq-eqb, ne-eqb}
+use borrow.Author.Tests.{ne-eqb}
 use Rattle.sets.specs.Member.{bit}
 use Rattle.image.specs.declared.records.Node.{Node}
 use Rattle.image.specs.Bytes.{Bytes}
@@ -18,7 +18,7 @@ use Rattle.image.specs.Rows.{node-fits}
 use Rattle.image.specs.Term.{term, Branch, size, branch-size, name, node-word, bytes-of}
 use Rattle.image.specs.Theorem.Lower.{fitted, lower}
 use Rattle.image.specs.Inner.Lower.{Lower}
-use Rattle.image.specs.Theorem.Choosing.{choice-condition, choice-b, choice-c, chosen-is}
+use Rattle.image.specs.Theorem.Choosing.{choice-condition, choice-b, choice-c, chosen-is, chosen-lower}
 use Rattle.image.specs.Theorem.Listed.{by-test}
 use Rattle.configure.specs.Inner.Term.{term-at}
 use Rattle.configure.specs.Inner.Writing.{Writing, Wrote, hung, SlotWriting, SlotWrote, own-word, Ended}
@@ -42,11 +42,15 @@ pub slot-falls : {n value : ℕ} (slot : ℕ) → (names-node slot ≡ true → 
 slot-falls {n} {value} slot lower =
     by-test (names-node slot) (λ u. cond u (2 * value + 3) 0 < 2 * n + 2) (λ names. omega (arith, lower names)) (λ none. omega arith)
 
--- a node that is to be written, as it was read, and its digits
-pub record Read (l : Bytes) (conditions : ℕ) (condition-sets : List ℕ) (s n at space : ℕ) (ν : Node) (digits : ℕ) : Type 0 where
+-- a node that is to be written, as it was read
+pub record Read (l : Bytes) (conditions : ℕ) (condition-sets : List ℕ) (s n at space : ℕ) (ν : Node) : Type 0 where
   pub writing : Writing l conditions condition-sets s n at space
   pub is-node : ν ≡ node l n
+
+-- one that is no choice, and its digits
+pub record Other (ν : Node) (digits : ℕ) : Type 0 where
   pub is-layout : digits ≡ layout (ν .kind)
+  pub no-choice : is-choice (ν .kind) ≡ false
 
 -- a part that is chosen: node x is lower than n, and has its term
 pub record Chosen (l : Bytes) (s n x : ℕ) : Type 0 where
@@ -68,8 +72,8 @@ pub record Finished (l : Bytes) (s n at : ℕ) (out out′ : Bytes) (ν : Node) 
   pub wrote : {own : ℕ} {out″ : Bytes} → own ≡ own-word ν after-a after-b after-c → out″ ≡ sets out′ (8 + 8 * after-c) (bytes-of 8 own)
       → Wrote l s n at out out″ (after-c + 1)
 
-module _ {l : Bytes} {conditions : ℕ} {condition-sets : List ℕ} {s n at space : ℕ} {ν : Node} {digits : ℕ}
-    (here : Read l conditions condition-sets s n at space ν digits) where
+module _ {l : Bytes} {conditions : ℕ} {condition-sets : List ℕ} {s n at space : ℕ} {ν : Node}
+    (here : Read l conditions condition-sets s n at space ν) where
   abbrev w : Writing l conditions condition-sets s n at space
   w = here .writing
 
@@ -81,24 +85,14 @@ module _ {l : Bytes} {conditions : ℕ} {condition-sets : List ℕ} {s n at spac
 
   -- ---- a choice
 
-  choice : a-digit digits ≡ 4 → is-choice (node l n .kind) ≡ true
-  unfolding is-choice
-  choice = rw (here .is-layout, here .is-node) (eq-eqb _ 4)
-
-  condition-below : a-digit digits ≡ 4 → node l n .a < header l .conditions
-  condition-below h = choice-condition l (w .ready .accepted) n (w .node-below) (choice h)
-
-  pub condition-there : a-digit digits ≡ 4 → ν .a < length condition-sets
-  condition-there = rw (here .is-node) (λ h. omega (arith, condition-below h, w .ready .conditions-are, w .ready .sets-there))
-
-  pub chosen : (u : Bool) → a-digit digits ≡ 4 → bit (getD condition-sets (ν .a) 0) s ≡ u → Chosen l s n (cond u (ν .b) (ν .c))
-  chosen u h =
-      let b-lower = choice-b l (w .ready .accepted) n (w .node-below) (choice h) in
-      let c-lower = choice-c l (w .ready .accepted) n (w .node-below) (choice h) in
-      let held = chosen-is l conditions condition-sets s (node l n .a) (w .ready) (condition-below h) in
-      rw (here .is-node) λ e. record {
-        is-lower = by-test u (λ u. cond u (node l n .b) (node l n .c) < n) (λ _. b-lower) (λ _. c-lower);
-        same = choice-term l s n (choice h) b-lower c-lower ∙ ap (λ u. term-at l s (cond u (node l n .b) (node l n .c))) (sym held ∙ e);
+  pub chosen : is-choice (ν .kind) ≡ true → Chosen l s n (cond (bit (getD condition-sets (ν .a) 0) s) (ν .b) (ν .c))
+  chosen = rw (here .is-node) λ choice.
+      let b-lower = choice-b l (w .ready .accepted) n (w .node-below) choice in
+      let c-lower = choice-c l (w .ready .accepted) n (w .node-below) choice in
+      let held = chosen-is l conditions condition-sets s (node l n .a) (w .ready) (choice-condition l (w .ready .accepted) n (w .node-below) choice) in
+      record {
+        is-lower = chosen-lower (bit (getD condition-sets (node l n .a) 0) s) (node l n .b) (node l n .c) n b-lower c-lower;
+        same = choice-term l s n choice b-lower c-lower ∙ ap (λ u. term-at l s (cond u (node l n .b) (node l n .c))) (sym held);
       }
 
   pub part-writing : {x : ℕ} → Chosen l s n x → Writing l conditions condition-sets s x at space
@@ -112,30 +106,6 @@ module _ {l : Bytes} {conditions : ℕ} {condition-sets : List ℕ} {s n at spac
   pub part-wrote : {x next : ℕ} {out out′ : Bytes} → Chosen l s n x → Wrote l s x at out out′ next → Wrote l s n at out out′ next
   part-wrote part wrote = record { next-is = rw (part .same) (wrote .next-is); out-is = rw (part .same) (wrote .out-is) }
 
-  -- ---- any other node
-
-  abbrev a : Branch
-  a = hung l s (a-digit digits) (ν .a)
-
-  abbrev b : Branch
-  b = hung l s (b-digit digits) (ν .b)
-
-  abbrev c : Branch
-  c = hung l s (c-digit digits) (ν .c)
-
-  own-term : (a-digit digits ≡ 4 → ⊥) → term-at l s n ≡ term (ν .kind) (ν .variable) (cond (eqb (ν .kind) 0) (ν .value) 0) a b c
-  unfolding is-choice
-  own-term = rw (here .is-layout, here .is-node) (λ other. node-term l s n (ne-eqb _ _ other) (low .a-lower) (low .b-lower) (low .c-lower))
-
-  pub slots : (a-digit digits ≡ 4 → ⊥) → Slots l s n ν digits
-  unfolding size
-  slots other = record {
-    a-lower = rw (here .is-layout, here .is-node) (low .a-lower);
-    b-lower = rw (here .is-layout, here .is-node) (low .b-lower);
-    c-lower = rw (here .is-layout, here .is-node) (low .c-lower);
-    size-is = ap size (own-term other);
-  }
-
   pub slot-writing : {slot value next space′ : ℕ} → (names-node slot ≡ true → value < n)
       → next + branch-size (hung l s slot value) ≤ at + size (term-at l s n) → space′ ≡ space
       → SlotWriting l conditions condition-sets s slot value next space′
@@ -146,29 +116,55 @@ module _ {l : Bytes} {conditions : ℕ} {condition-sets : List ℕ} {s n at spac
     fits = omega (arith, w .fits);
   }
 
-  module _ (other : a-digit digits ≡ 4 → ⊥) {p q r : ℕ} {o o₁ o₂ o₃ : Bytes}
+-- ---- any other node
+
+module _ {l : Bytes} {conditions : ℕ} {condition-sets : List ℕ} {s n at space : ℕ} {ν : Node} {digits : ℕ}
+    (here : Read l conditions condition-sets s n at space ν) (other : Other ν digits) where
+  abbrev a : Branch
+  a = hung l s (a-digit digits) (ν .a)
+
+  abbrev b : Branch
+  b = hung l s (b-digit digits) (ν .b)
+
+  abbrev c : Branch
+  c = hung l s (c-digit digits) (ν .c)
+
+  own-term : term-at l s n ≡ term (ν .kind) (ν .variable) (cond (eqb (ν .kind) 0) (ν .value) 0) a b c
+  own-term = rw (other .is-layout, here .is-node)
+      (node-term l s n (ap (λ μ. is-choice (μ .kind)) (sym (here .is-node)) ∙ other .no-choice) (low here .a-lower) (low here .b-lower) (low here .c-lower))
+
+  pub slots : Slots l s n ν digits
+  unfolding size
+  slots = record {
+    a-lower = rw (other .is-layout, here .is-node) (low here .a-lower);
+    b-lower = rw (other .is-layout, here .is-node) (low here .b-lower);
+    c-lower = rw (other .is-layout, here .is-node) (low here .c-lower);
+    size-is = ap size (own-term);
+  }
+
+  module _ {p q r : ℕ} {o o₁ o₂ o₃ : Bytes}
       (wa : SlotWrote a at o o₁ p) (wb : SlotWrote b p o₁ o₂ q) (wc : SlotWrote c q o₂ o₃ r) where
     next-is : r + 1 ≡ at + size (term-at l s n)
-    next-is = rw (own-term other) (node-next wa wb wc _ _ _)
+    next-is = rw (own-term) (node-next wa wb wc _ _ _)
 
     ended : Ended ν p q r
     unfolding node
     ended = record {
-      known = rw (here .is-node) (known (header l .conditions) n (node l n) fits);
+      known = rw (here .is-node) (known (header l .conditions) n (node l n) (fits here));
       variable-small = rw (here .is-node) (omega arith);
-      a-written = λ names. omega (arith, hung-some l s (a-digit digits) (ν .a) (rw (here .is-layout) names), wa .next-is);
-      b-written = λ names. omega (arith, hung-some l s (b-digit digits) (ν .b) (rw (here .is-layout) names), wb .next-is);
-      c-written = λ names. omega (arith, hung-some l s (c-digit digits) (ν .c) (rw (here .is-layout) names), wc .next-is);
-      a-small = omega (arith, wb .next-is, wc .next-is, next-is, w .few);
-      b-small = omega (arith, wc .next-is, next-is, w .few);
-      c-small = omega (arith, next-is, w .few);
+      a-written = λ names. omega (arith, hung-some l s (a-digit digits) (ν .a) (rw (other .is-layout) names), wa .next-is);
+      b-written = λ names. omega (arith, hung-some l s (b-digit digits) (ν .b) (rw (other .is-layout) names), wb .next-is);
+      c-written = λ names. omega (arith, hung-some l s (c-digit digits) (ν .c) (rw (other .is-layout) names), wc .next-is);
+      a-small = omega (arith, wb .next-is, wc .next-is, next-is, w here .few);
+      b-small = omega (arith, wc .next-is, next-is, w here .few);
+      c-small = omega (arith, next-is, w here .few);
     }
 
     word-is : own-word ν p q r ≡ node-word (ν .kind) (ν .variable) (cond (eqb (ν .kind) 0) (ν .value) 0) (name a p) (name b q) (name c r)
     unfolding own-word
     word-is =
         rw (
-          ← here .is-layout,
+          ← other .is-layout,
           hung-name l s (a-digit digits) (ν .a) p,
           hung-name l s (b-digit digits) (ν .b) q,
           hung-name l s (c-digit digits) (ν .c) r,
@@ -180,7 +176,7 @@ module _ {l : Bytes} {conditions : ℕ} {condition-sets : List ℕ} {s n at spac
       next-is = next-is;
       wrote = λ own put. record {
         next-is = next-is;
-        out-is = rw (own-term other)
+        out-is = rw (own-term)
             (put ∙ ap (λ word. sets o₃ (8 + 8 * r) (bytes-of 8 word)) (own ∙ word-is) ∙ node-bytes wa wb wc _ _ _);
       };
     }

@@ -9,10 +9,13 @@ ghost use Rattle.image.specs.Term.{size};
 ghost use Rattle.configure.specs.Inner.Term.{term-at};
 ghost use Rattle.image.specs.Inner.Ready.{Ready};
 ghost use Rattle.configure.specs.Inner.Sizing.{Sizing};
-use image::fits::layout;
-use image::fits::names_node;
+use image::choice::chosen;
+use image::kinds::OF_A;
+use image::kinds::OF_B;
+use image::kinds::is_choice;
+use image::kinds::layout;
+use image::kinds::names_node;
 use image::records::node_at;
-use sets::Set;
 
 // The size of the child that a field names; none, where it names no node.
 fn slot_size(slot: u32, value: usize, sizes: &[usize]) -> usize
@@ -35,20 +38,14 @@ fn size_of(
     ensures { λ r. ⌜ r ≡ size (term-at (now (image .entry)) s n) ⌝ }
 {
     let node = node_at(image, conditions, n);
-    let a = node.a;
-    let b = node.b;
-    let c = node.c;
-    let digits = layout(node.kind);
-    if digits / 64 % 8 == 4 {
-        let chosen = Set { bits: sets[a] };
-        if chosen.has(s) {
-            return sizes[b];
-        }
-        return sizes[c];
+    if is_choice(node.kind) {
+        let part = chosen(node, sets, s);
+        return sizes[part];
     }
-    let in_a = slot_size(digits / 64 % 8, a, sizes);
-    let in_b = slot_size(digits / 8 % 8, b, sizes);
-    let in_c = slot_size(digits % 8, c, sizes);
+    let digits = layout(node.kind);
+    let in_a = slot_size(digits / OF_A % 8, node.a, sizes);
+    let in_b = slot_size(digits / OF_B % 8, node.b, sizes);
+    let in_c = slot_size(digits % 8, node.c, sizes);
     in_a + in_b + in_c + 1
 }
 

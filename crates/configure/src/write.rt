@@ -8,11 +8,15 @@ ghost use lib.Seq.{sets};
 ghost use Rattle.image.specs.Layout.{names-node};
 ghost use Rattle.image.specs.Term.{node-word, bytes-of};
 ghost use Rattle.configure.specs.Inner.Writing.{Writing, Wrote, hung, SlotWriting, SlotWrote, Fields, named, own-word, Ended};
-use image::fits::layout;
-use image::fits::names_node;
+use image::choice::chosen;
+use image::kinds::NUMBER;
+use image::kinds::OF_A;
+use image::kinds::OF_B;
+use image::kinds::is_choice;
+use image::kinds::layout;
+use image::kinds::names_node;
 use image::records::Node;
 use image::records::node_at;
-use sets::Set;
 
 // The eight bytes of w, most significant first; the least is stored first.
 pub fn put(out: &mut [u8], at: usize, w: u64)
@@ -40,7 +44,7 @@ fn name(slot: u32, next: usize) -> usize
 fn value_of(node: Node) -> u32
     ensures { λ r. ⌜ r ≡ cond (eqb (node .kind) 0) (node .value) 0 ⌝ }
 {
-    if node.kind == 0 { node.value } else { 0 }
+    if node.kind == NUMBER { node.value } else { 0 }
 }
 
 // No kind above 23 is known, so a value of 32 bits never carries out of the word.
@@ -62,8 +66,8 @@ fn own_word(node: Node, after_a: usize, after_b: usize, after_c: usize) -> u64
     ensures { λ r. ⌜ r ≡ own-word node «after_a» «after_b» «after_c» ⌝ }
 {
     let digits = layout(node.kind);
-    let a = name(digits / 64 % 8, after_a);
-    let b = name(digits / 8 % 8, after_b);
+    let a = name(digits / OF_A % 8, after_a);
+    let b = name(digits / OF_B % 8, after_b);
     let c = name(digits % 8, after_c);
     node_word(node.kind, node.variable, value_of(node), a, b, c)
 }
@@ -102,20 +106,32 @@ pub fn write(
     ensures { λ r. ⌜ Wrote (now (image .entry)) s n at (now (out .entry)) (now (out .exit)) r ⌝ }
 {
     let node = node_at(image, conditions, n);
-    let a = node.a;
-    let b = node.b;
-    let c = node.c;
-    let digits = layout(node.kind);
-    if digits / 64 % 8 == 4 {
-        let condition = Set { bits: sets[a] };
-        if condition.has(s) {
-            return write(image, conditions, sets, s, b, at, out);
-        }
-        return write(image, conditions, sets, s, c, at, out);
+    if is_choice(node.kind) {
+        let part = chosen(node, sets, s);
+        return write(image, conditions, sets, s, part, at, out);
     }
-    let after_a = write_slot(image, conditions, sets, s, digits / 64 % 8, a, at, out);
-    let after_b = write_slot(image, conditions, sets, s, digits / 8 % 8, b, after_a, out);
-    let after_c = write_slot(image, conditions, sets, s, digits % 8, c, after_b, out);
+    let digits = layout(node.kind);
+    let after_a = write_slot(
+        image,
+        conditions,
+        sets,
+        s,
+        digits / OF_A % 8,
+        node.a,
+        at,
+        out,
+    );
+    let after_b = write_slot(
+        image,
+        conditions,
+        sets,
+        s,
+        digits / OF_B % 8,
+        node.b,
+        after_a,
+        out,
+    );
+    let after_c = write_slot(image, conditions, sets, s, digits % 8, node.c, after_b, out);
     let own = own_word(node, after_a, after_b, after_c);
     put(out, 8 + 8 * after_c, own);
     after_c + 1

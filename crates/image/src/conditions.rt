@@ -6,11 +6,16 @@ ghost use Rattle.sets.specs.Member.{has};
 ghost use Rattle.image.specs.Rows.{judge};
 ghost use Rattle.image.specs.Check.{shape-of};
 ghost use Rattle.image.specs.Sets.{in-condition, condition-rows, set-answer};
-ghost use Rattle.image.specs.Inner.SetsOf.{Turn, SetsOf};
+ghost use Rattle.image.specs.Inner.SetsOf.{TableOf, Turn};
 ghost use Rattle.image.specs.Accepted.{Accepted};
 use super::accept::Checked;
 use super::accept::Shape;
 use super::accept::check;
+use super::kinds::AND_CONDITION;
+use super::kinds::FALSE_CONDITION;
+use super::kinds::NOT_CONDITION;
+use super::kinds::OPTION;
+use super::kinds::TRUE_CONDITION;
 use super::records::condition_at;
 use super::refusals::Refusal;
 use sets::Full;
@@ -31,12 +36,12 @@ fn set_of(image: &[u8], k: usize, full: Set, sets: &[u64]) -> Set
     let left = r.left;
     let right = r.right;
     match kind {
-        0 => Set { bits: 0 },
-        1 => full,
-        2 => Set::option(full, r.option),
-        3 => full.take_away(Set { bits: sets[left] }),
-        4 => Set { bits: sets[left] }.meet(Set { bits: sets[right] }),
-        _ => Set { bits: sets[left] }.join(Set { bits: sets[right] }),
+        FALSE_CONDITION => Set::empty(),
+        TRUE_CONDITION => full,
+        OPTION => Set::option(full, r.option),
+        NOT_CONDITION => full.take_away(Set::at(sets, left)),
+        AND_CONDITION => Set::at(sets, left).meet(Set::at(sets, right)),
+        _ => Set::at(sets, left).join(Set::at(sets, right)),
     }
 }
 
@@ -47,14 +52,14 @@ pub fn all_settings(options: u32) -> Set
 {
     match Set::full(options) {
         Full::Of(all) => all,
-        Full::Refused => Set { bits: 0 },
+        Full::Refused => Set::empty(),
     }
 }
 
-// The sets of all conditions of an accepted image, each from those before it.
+// The sets of all conditions of an accepted image, each from those before it; the places from C on are empty.
 pub fn condition_sets(image: &[u8], shape: Shape) -> [u64; 256]
     requires { ⌜ Accepted (now image) × (shape ≡ shape-of (now image)) ⌝ }
-    ensures { λ r. ⌜ SetsOf (now (image .entry)) (shape .conditions) r ⌝ }
+    ensures { λ r. ⌜ TableOf (now (image .entry)) (shape .conditions) r ⌝ }
 {
     let full = all_settings(shape.options);
     let conditions = shape.conditions;
@@ -76,7 +81,7 @@ pub fn condition_set(image: &[u8], number: usize) -> ConditionSet
                 return ConditionSet::Refused(Refusal::ConditionBeyond);
             }
             let sets = condition_sets(image, shape);
-            ConditionSet::Of(Set { bits: sets[number] })
+            ConditionSet::Of(Set::at(&sets, number))
         }
     }
 }

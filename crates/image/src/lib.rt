@@ -1,7 +1,9 @@
 // Images: what is refused, with which number and place, and what an accepted image holds.
 pub mod accept; // accept.rt: tests 1 to 8
+pub mod choice; // choice.rt: the side that a choice or a test takes
 pub mod conditions; // conditions.rt: the sets of conditions
-pub mod fits; // fits.rt: what one record may hold
+mod fits; // fits.rt: what one record may hold
+pub mod kinds; // kinds.rt: the kinds by name, and what each holds
 mod names; // names.rt: how often each node is named
 pub mod records; // records.rt: the fields of header, conditions and nodes
 pub mod refusals; // refusals.rt: document 01's refusals

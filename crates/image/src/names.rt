@@ -8,8 +8,10 @@ ghost use Rattle.image.specs.Layout.{names-node};
 ghost use Rattle.image.specs.Rows.{slot-names, node-names, names, named-wrong, lowest};
 ghost use Rattle.image.specs.Inner.Whole.{Fitting};
 ghost use Rattle.image.specs.Inner.Lower.{Lower};
-use super::fits::layout;
-use super::fits::names_node;
+use super::kinds::OF_A;
+use super::kinds::OF_B;
+use super::kinds::layout;
+use super::kinds::names_node;
 use super::records::Node;
 use super::records::node_at;
 
@@ -29,8 +31,8 @@ fn count_node(counts: &mut [u32], node: Node)
     ensures { λ r. ⌜ ((k : ℕ) → getD (now (counts .exit)) k 0 ≡ getD (now (counts .entry)) k 0 + node-names node k) ⌝ }
 {
     let digits = layout(node.kind);
-    count_slot(counts, digits / 64 % 8, node.a);
-    count_slot(counts, digits / 8 % 8, node.b);
+    count_slot(counts, digits / OF_A % 8, node.a);
+    count_slot(counts, digits / OF_B % 8, node.b);
     count_slot(counts, digits % 8, node.c);
 }
 

@@ -140,10 +140,6 @@ module _ {l : Bytes} {C : ℕ} {S : List ℕ} {s n κ : ℕ} {ns : List ℤ} {ν
   condition-there : (k : ℕ) → ν .kind ≡ k → is-choice k ≡ true → node l n .a < header l .conditions
   condition-there k e choice = choice-condition l acc n below (rw (is-kind e) choice)
 
-  pub set-there : (k : ℕ) → ν .kind ≡ k → is-choice k ≡ true → ν .a < length S
-  set-there k e choice =
-      rw (p .is-node) (omega (arith, condition-there k e choice, p .evaluating .ready .conditions-are, p .evaluating .ready .sets-there))
-
   pub variable-there : ν .kind ≡ 1 → ν .variable < length ns
   unfolding layout kinds
   variable-there e =

@@ -4,7 +4,7 @@ ghost use Rattle.image.specs.Layout.{is-choice};
 ghost use Rattle.image.specs.Records.{node};
 ghost use Rattle.image.specs.Rows.{lowest};
 ghost use Rattle.image.specs.Inner.Whole.{Whole};
-use image::fits::layout;
+use image::kinds::is_choice;
 use image::records::node_at;
 
 // The lowest choice, and P where there is none.
@@ -14,7 +14,7 @@ pub fn lowest_choice(image: &[u8], conditions: usize, nodes: usize) -> usize
 {
     let mut n: usize = 0;
     while n < nodes {
-        if layout(node_at(image, conditions, n).kind) / 64 % 8 == 4 {
+        if is_choice(node_at(image, conditions, n).kind) {
             return n;
         }
         n += 1;

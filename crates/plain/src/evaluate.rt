@@ -1,34 +1,23 @@
 // The value of an expression in a setting, straight from the image: arithmetic and booleans call each other, over node numbers that fall.
 ghost use mathlib.Core.Path.{_≡_};
-ghost use mathlib.Core.Bool.{cond};
-ghost use Prim.Native.Nat.{_<_};
-ghost use lib.ListN.{length, getD};
-ghost use Rattle.sets.specs.Member.{bit};
 ghost use Rattle.imp.specs.Shared.{valueIn, truthIn};
 ghost use Rattle.image.specs.Tree.{read};
 ghost use Rattle.plain.specs.Inner.Evaluating.{Evaluating};
-use image::records::Node;
+use image::choice::chosen;
+use image::choice::side;
+use image::kinds::AND;
+use image::kinds::FALSE;
+use image::kinds::LESS;
+use image::kinds::NOT;
+use image::kinds::NUMBER;
+use image::kinds::PICK;
+use image::kinds::SUM;
+use image::kinds::TRUE;
+use image::kinds::VARIABLE;
 use image::records::node_at;
 use imp::less;
 use imp::signed;
 use imp::sum;
-use sets::Set;
-
-// "b if true, c if false".
-pub fn side(test: bool, node: Node) -> usize
-    ensures { λ r. ⌜ r ≡ cond test (node .b) (node .c) ⌝ }
-{
-    if test { node.b } else { node.c }
-}
-
-// The side that stands for a choice: "b if s is in its condition, else .. c".
-pub fn chosen(node: Node, sets: &[u64], s: u64) -> usize
-    requires { ⌜ node .a < length (now sets) ⌝ }
-    ensures { λ r. ⌜ r ≡ cond (bit (getD (now (sets .entry)) (node .a) 0) s) (node .b) (node .c) ⌝ }
-{
-    let a = node.a;
-    side(Set { bits: sets[a] }.has(s), node)
-}
 
 // "An arithmetic pick holds a boolean, and a boolean less holds arithmetic, so each is defined through the other."
 pub fn arithmetic(
@@ -45,17 +34,17 @@ pub fn arithmetic(
     let node = node_at(image, conditions, n);
     let kind = node.kind;
     match kind {
-        0 => signed(node.value),
-        1 => {
+        NUMBER => signed(node.value),
+        VARIABLE => {
             let variable = node.variable;
             numbers[variable]
         }
-        2 => {
+        SUM => {
             let a = arithmetic(image, conditions, sets, s, node.a, numbers);
             let b = arithmetic(image, conditions, sets, s, node.b, numbers);
             sum(a, b)
         }
-        3 => {
+        PICK => {
             let test = boolean(image, conditions, sets, s, node.a, numbers);
             arithmetic(image, conditions, sets, s, side(test, node), numbers)
         }
@@ -77,15 +66,15 @@ pub fn boolean(
     let node = node_at(image, conditions, n);
     let kind = node.kind;
     match kind {
-        8 => false,
-        9 => true,
-        10 => !boolean(image, conditions, sets, s, node.a, numbers),
-        11 => {
+        FALSE => false,
+        TRUE => true,
+        NOT => !boolean(image, conditions, sets, s, node.a, numbers),
+        AND => {
             let a = boolean(image, conditions, sets, s, node.a, numbers);
             let b = boolean(image, conditions, sets, s, node.b, numbers);
             a & b
         }
-        12 => {
+        LESS => {
             let a = arithmetic(image, conditions, sets, s, node.a, numbers);
             let b = arithmetic(image, conditions, sets, s, node.b, numbers);
             less(a, b)

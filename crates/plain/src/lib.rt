@@ -6,19 +6,26 @@ ghost use Rattle.image.specs.Accepted.{Accepted};
 ghost use Rattle.plain.specs.PlainRun.{lent-rows, plain-rows, Runs};
 
 mod choices; // choices.rt: the lowest choice of an image
-pub mod evaluate; // evaluate.rt: the value of an expression
+mod evaluate; // evaluate.rt: the value of an expression
 pub mod progress; // progress.rt: how far a setting is
-pub mod run; // run.rt: a statement
-pub mod step; // step.rt: what a statement does by itself
+mod run; // run.rt: a statement
+mod step; // step.rt: what a statement does by itself
 
+// What the shared run does in each of its settings.
 use choices::lowest_choice;
+pub use evaluate::boolean;
 use image::accept::Checked;
 use image::accept::Shape;
 use image::accept::check;
 use image::conditions::condition_sets;
 use image::refusals::Refusal;
+use progress::LIVE;
 use progress::Progress;
 use run::run;
+pub use step::assign;
+pub use step::begin;
+pub use step::fault;
+pub use step::take;
 
 // How the run ended, or the refusal.
 pub enum PlainRun {
@@ -39,7 +46,7 @@ fn run_accepted(image: &[u8], shape: Shape, budget: u32, numbers: &mut [i32]) ->
     }
     let sets = condition_sets(image, shape);
     let fresh = Progress {
-        outcome: 1,
+        outcome: LIVE,
         code: 0,
         steps: 0,
     };

@@ -1,4 +1,14 @@
-// How far a setting is: its outcome (0 idle, 1 done, 2 fault, 3 out), its code, its steps.
+// How far a setting is: its outcome, its code, its steps.
+
+// "Outcomes: 0 idle, 1 done, 2 fault, 3 out." A setting that runs is done so far, and so it is live.
+pub const IDLE: u8 = 0;
+
+pub const LIVE: u8 = 1;
+
+pub const FAULT: u8 = 2;
+
+pub const OUT: u8 = 3;
+
 pub struct Progress {
     pub outcome: u8,
     pub code: i32,

@@ -4,7 +4,8 @@ ghost use Rattle.imp.specs.Plain.{run as running};
 ghost use Rattle.image.specs.Tree.{read};
 ghost use Rattle.plain.specs.Inner.Progress.{state-of};
 ghost use Rattle.plain.specs.Inner.Running.{Running, Repeating, Trying, Ran, turning, trying};
-use crate::evaluate::chosen;
+use crate::progress::FAULT;
+use crate::progress::LIVE;
 use crate::progress::Progress;
 use crate::step::assign;
 use crate::step::begin;
@@ -12,6 +13,14 @@ use crate::step::decided;
 use crate::step::fault;
 use crate::step::take;
 use crate::step::tested;
+use image::choice::chosen;
+use image::kinds::ASSIGN;
+use image::kinds::CHOICE;
+use image::kinds::IF;
+use image::kinds::SEQUENCE;
+use image::kinds::SKIP;
+use image::kinds::THROW;
+use image::kinds::WHILE;
 use image::records::Node;
 use image::records::node_at;
 
@@ -31,27 +40,27 @@ pub fn run(
 {
     let node = node_at(image, conditions, n);
     let kind = node.kind;
-    if kind == 23 {
+    if kind == CHOICE {
         let part = chosen(node, sets, s);
         return run(image, conditions, sets, s, part, budget, p, numbers);
     }
     let q = begin(budget, p);
-    if q.outcome != 1 {
+    if q.outcome != LIVE {
         return q;
     }
     match kind {
-        16 => q,
-        17 => assign(image, conditions, sets, s, node, q, numbers),
-        18 => {
+        SKIP => q,
+        ASSIGN => assign(image, conditions, sets, s, node, q, numbers),
+        SEQUENCE => {
             let r = run(image, conditions, sets, s, node.a, budget, q, numbers);
             run(image, conditions, sets, s, node.b, budget, r, numbers)
         }
-        19 => {
+        IF => {
             let part = decided(image, conditions, sets, s, node, numbers);
             run(image, conditions, sets, s, part, budget, q, numbers)
         }
-        20 => repeat(image, conditions, sets, s, node, budget, q, numbers),
-        21 => fault(image, conditions, sets, s, node, q, numbers),
+        WHILE => repeat(image, conditions, sets, s, node, budget, q, numbers),
+        THROW => fault(image, conditions, sets, s, node, q, numbers),
         _ => attempt(image, conditions, sets, s, node, budget, q, numbers),
     }
 }
@@ -95,7 +104,7 @@ fn attempt(
     ensures { λ r. ⌜ Ran (trying budget s (now (image .entry)) (node .a) (node .variable) (node .b) (state-of p (now (numbers .entry)))) r (now (numbers .exit)) ⌝ }
 {
     let r = run(image, conditions, sets, s, node.a, budget, p, numbers);
-    if r.outcome != 2 {
+    if r.outcome != FAULT {
         return r;
     }
     let q = take(node, r, numbers);

@@ -11,8 +11,11 @@ ghost use Rattle.plain.specs.Inner.Progress.{Proper, state-of};
 ghost use Rattle.plain.specs.Inner.Running.{Takes, Began, Ran};
 use crate::evaluate::arithmetic;
 use crate::evaluate::boolean;
-use crate::evaluate::side;
+use crate::progress::FAULT;
+use crate::progress::LIVE;
+use crate::progress::OUT;
 use crate::progress::Progress;
+use image::choice::side;
 use image::records::Node;
 
 // Begins a statement: "a run which has already begun as many as its budget stops as out"; what is not live passes by.
@@ -20,18 +23,18 @@ pub fn begin(budget: u32, p: Progress) -> Progress
     requires { ⌜ Proper (p .outcome) (p .code) ⌝ }
     ensures { λ r. ⌜ Began budget p r ⌝ }
 {
-    if p.outcome != 1 {
+    if p.outcome != LIVE {
         return p;
     }
     if p.steps < budget {
         return Progress {
-            outcome: 1,
+            outcome: LIVE,
             code: 0,
             steps: p.steps + 1,
         };
     }
     Progress {
-        outcome: 3,
+        outcome: OUT,
         code: 0,
         steps: p.steps,
     }
@@ -50,7 +53,7 @@ pub fn tested(
     requires { ⌜ Evaluating (now image) conditions (now sets) s n 2 (now numbers) ⌝ }
     ensures { λ r. ⌜ r ≡ (eqb (p .outcome) 1 && truthIn s (read (now (image .entry)) n .boolean) (now (numbers .entry))) ⌝ }
 {
-    if p.outcome != 1 {
+    if p.outcome != LIVE {
         return false;
     }
     boolean(image, conditions, sets, s, n, numbers)
@@ -106,7 +109,7 @@ pub fn fault(
 {
     let code = arithmetic(image, conditions, sets, s, node.a, numbers);
     Progress {
-        outcome: 2,
+        outcome: FAULT,
         code: code,
         steps: p.steps,
     }
@@ -121,7 +124,7 @@ pub fn take(node: Node, p: Progress, numbers: &mut [i32]) -> Progress
     let code = p.code;
     numbers[v] = code;
     Progress {
-        outcome: 1,
+        outcome: LIVE,
         code: 0,
         steps: p.steps,
     }

@@ -3,6 +3,7 @@ ghost use mathlib.Core.Path.{_≡_};
 ghost use mathlib.Core.Bool.{_&&_, _||_, not};
 ghost use Prim.Native.Nat.{ℕ, _^_};
 ghost use lib.Dec.{eqb, ltb, leb};
+ghost use lib.ListN.{getD};
 ghost use Rattle.sets.specs.Member.{bit, has, members, verdictOf, fullOf, fullHas};
 
 mod panel; // panel.rt: the same for panel software in C
@@ -31,6 +32,22 @@ const OPTIONS: [u64; 6] = [
 ];
 
 impl Set {
+    pub fn empty() -> Set
+        ensures { λ r. ⌜ r .bits ≡ 0 ⌝ }
+    {
+        Set { bits: 0 }
+    }
+
+    // The set at place k of a table of sets, and past its end the empty set.
+    pub fn at(table: &[u64], k: usize) -> Set
+        ensures { λ r. ⌜ r .bits ≡ getD (now (table .entry)) k 0 ⌝ }
+    {
+        if k < table.len() {
+            return Set { bits: table[k] };
+        }
+        Set { bits: 0 }
+    }
+
     pub fn meet(self, other: Set) -> Set
         ensures { λ r. ⌜ ((s : ℕ) → has r s ≡ (has self s && has other s)) ⌝ }
     {

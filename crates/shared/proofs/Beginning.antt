@@ -118,8 +118,8 @@ pub record BegunBelow (N b : ℕ) (on : Set) (k : ℕ) (T T′ : Tally) (left : 
   pub left-is : Found k (bit (on .bits)) (λ t. ready b (own [] T t)) (left .bits)
   pub tallied : Tallied N T′
 
-pub none-begun : {N b : ℕ} {on : Set} {T : Tally} → Tallied N T → BegunBelow N b on 0 T T (record { bits = 0 })
-none-begun h = record { entered = λ xs. upto-none; left-is = found-none; tallied = h }
+pub none-begun : {N b : ℕ} {on left : Set} {T : Tally} → left .bits ≡ 0 → Tallied N T → BegunBelow N b on 0 T T left
+none-begun e h = record { entered = λ xs. upto-none; left-is = rw e found-none; tallied = h }
 
 pub one-more : {N b k : ℕ} {on left left′ : Set} {T T′ T″ : Tally} → BegunBelow N b on k T T′ left → BeganAt N b on k left T′ T″ left′
     → BegunBelow N b on (k + 1) T T″ left′

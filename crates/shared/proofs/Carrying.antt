@@ -80,14 +80,13 @@ module _ {l : Bytes} {shape : Shape} {set : Set} {budget : ℕ} {xs : List ℤ} 
       }
 
   module _ {T′ : Tally} (started : Starts N set T′) where
-    pub can-run : {sets : List ℕ} → SetsOf l (shape .conditions) sets → 256 ≤ length sets → Sharing l plan sets budget set 0 xs T′
-    can-run right there = record {
+    pub can-run : {sets : List ℕ} → SetsOf l (shape .conditions) sets → Sharing l plan sets budget set 0 xs T′
+    can-run right = record {
       prepared = record {
         ready = λ s below. record {
           accepted = h .accepted;
           conditions-are = conditions-are;
           sets-right = right;
-          sets-there = omega (arith, conditions-are, h .accepted .few-conditions);
           setting-below = below;
         };
         settings-are = h .sized .outcomes-length;

@@ -1,11 +1,11 @@
 -- Some of a set: what is asked for holds for them too, and the parts of a choice and of an if are run for whom the meaning says.
-use mathlib.Core.Path.{_≡_, sym, _∙_, ap₂}
-use Prim.Native.Nat.{ℕ, _≤_, _<_}
+use mathlib.Core.Path.{_≡_, sym, _∙_, ap₂, ap}
+use Prim.Native.Nat.{ℕ, _<_}
 use mathlib.Core.Bool.{not, _&&_}
 use mathlib.Core.List.{List}
 use native.Mathlib.Omega.{arith}
 use lib.IntN.{ℤ}
-use lib.ListN.{length, getD}
+use lib.ListN.{getD}
 use lib.Pow.{pow-pos}
 use Rattle.sets.specs.declared.Set.{Set}
 use Rattle.sets.specs.Member.{bit}
@@ -49,22 +49,17 @@ module _ {l : Bytes} {plan : Plan} {sets : List ℕ} {rem : ℕ} {on : Set} {vis
   -- ---- a choice
 
   module _ {ν : Node} (chooses : Chooses l ν) where
-    pub set-there : ν .a < length sets
-    set-there = omega (arith, chooses .condition-below, of-image (h .prepared) .conditions-are, of-image (h .prepared) .sets-there)
-
-    pub set-near : ν .a ≤ 256
-    set-near = omega (arith, chooses .condition-below, of-image (h .prepared) .accepted .few-conditions)
-
-    pub parts-chosen : (first others : Set) → ((s : ℕ) → bit (first .bits) s ≡ (bit (on .bits) s && bit (getD sets (ν .a) 0) s))
-        → ((s : ℕ) → bit (others .bits) s ≡ (bit (on .bits) s && not (bit (getD sets (ν .a) 0) s))) → (Σ : Shared)
+    pub parts-chosen : (chosen first others : Set) → chosen .bits ≡ getD sets (ν .a) 0
+        → ((s : ℕ) → bit (first .bits) s ≡ (bit (on .bits) s && bit (chosen .bits) s))
+        → ((s : ℕ) → bit (others .bits) s ≡ (bit (on .bits) s && not (bit (chosen .bits) s))) → (Σ : Shared)
         → sharing plan l (ν .c) (bit (others .bits)) (sharing plan l (ν .b) (bit (first .bits)) Σ) ≡ choosing plan l ν (bit (on .bits)) Σ
-    parts-chosen first others e f Σ =
+    parts-chosen chosen first others is e f Σ =
         let ready = of-image (h .prepared) in
         let there : ν .a < plan .conditions = omega (arith, chooses .condition-below, ready .conditions-are) in
         let inside : Below (settings l) (bit (on .bits)) = λ s u. omega (arith, h .below s u, h .prepared .settings-are) in
         ap₂ (λ n y. sharing plan l (ν .c) n (sharing plan l (ν .b) y Σ))
-        (where-not-chosen (ready .sets-right) (ν .a) there (bit (on .bits)) inside (others .bits) f)
-        (where-chosen (ready .sets-right) (ν .a) there (bit (on .bits)) inside (first .bits) e)
+        (where-not-chosen (ready .sets-right) (ν .a) there (bit (on .bits)) inside (others .bits) λ s. f s ∙ ap (λ x. bit (on .bits) s && not (bit x s)) is)
+        (where-chosen (ready .sets-right) (ν .a) there (bit (on .bits)) inside (first .bits) λ s. e s ∙ ap (λ x. bit (on .bits) s && bit x s) is)
 
   -- ---- an if
 

@@ -7,11 +7,13 @@ use crate::lent::progress_of;
 use crate::lent::set_progress;
 use crate::plan::Plan;
 use crate::turn::Turn;
+use image::kinds::ASSIGN;
+use image::kinds::THROW;
 use image::records::Node;
+use plain::assign;
+use plain::fault;
 use plain::progress::Progress;
-use plain::step::assign;
-use plain::step::fault;
-use plain::step::take;
+use plain::take;
 use sets::Set;
 
 // In one setting, on its own sixteen numbers.
@@ -29,8 +31,8 @@ fn act(
 {
     let kind = node.kind;
     match kind {
-        17 => assign(image, conditions, sets, s, node, p, numbers),
-        21 => fault(image, conditions, sets, s, node, p, numbers),
+        ASSIGN => assign(image, conditions, sets, s, node, p, numbers),
+        THROW => fault(image, conditions, sets, s, node, p, numbers),
         _ => take(node, p, numbers),
     }
 }

@@ -8,8 +8,10 @@ ghost use Rattle.sets.specs.Member.{has};
 ghost use Rattle.shared.specs.Lent.{part};
 ghost use Rattle.shared.specs.Inner.Asking.{asking, Asks, AskingAt, AskingFor};
 use crate::plan::Plan;
+use image::kinds::TRY;
 use image::records::Node;
-use plain::evaluate::boolean;
+use plain::boolean;
+use plain::progress::FAULT;
 use sets::Set;
 
 // In one setting, by its outcome and its numbers. "Out is never caught. Fault 0 is a fault."
@@ -25,8 +27,8 @@ fn ask(
     requires { ⌜ Asks (now image) conditions (now sets) s node (now numbers) ⌝ }
     ensures { λ r. ⌜ r ≡ asking (now (image .entry)) node s outcome (now (numbers .entry)) ⌝ }
 {
-    if node.kind == 22 {
-        return outcome == 2;
+    if node.kind == TRY {
+        return outcome == FAULT;
     }
     boolean(image, conditions, sets, s, node.a, numbers)
 }
@@ -80,7 +82,7 @@ pub fn ask_for(
     ensures { λ r. ⌜ ((t : ℕ) → has r t ≡ (has on t && asking (now (image .entry)) node t (getD (now (outcomes .entry)) t 0) (part (now (store .entry)) t))) ⌝ }
 {
     let n = plan.settings;
-    let mut found = Set { bits: 0 };
+    let mut found = Set::empty();
     for s in 0..n {
         found = ask_at(image, plan, sets, node, on, s, found, outcomes, store);
     }

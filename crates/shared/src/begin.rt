@@ -10,8 +10,8 @@ use crate::lent::progress_of;
 use crate::lent::set_progress;
 use crate::plan::Plan;
 use crate::turn::Turn;
-use plain::progress::Progress;
-use plain::step::begin;
+use plain::begin;
+use plain::progress::LIVE;
 use sets::Set;
 
 // Setting s is begun if it is of the set; where it then is live, it joins those that are left.
@@ -32,7 +32,7 @@ fn begin_at(
     }
     let p = begin(plan.budget, progress_of(s, outcomes, codes, steps));
     set_progress(s, p, outcomes, codes, steps);
-    if p.outcome == 1 {
+    if p.outcome == LIVE {
         return left.with(s as u64);
     }
     left
@@ -69,7 +69,7 @@ pub fn begin_for(
     ensures { λ r. ⌜ BegunFor (plan .settings) (plan .budget) (turn .on) (turn .rem) (turn .visits) (tally (now (outcomes .entry)) (now (codes .entry)) (now (steps .entry))) (tally (now (outcomes .exit)) (now (codes .exit)) (now (steps .exit))) r ⌝ }
 {
     let n = plan.settings;
-    let mut left = Set { bits: 0 };
+    let mut left = Set::empty();
     for s in 0..n {
         left = begin_at(plan, turn.on, s, left, outcomes, codes, steps);
     }

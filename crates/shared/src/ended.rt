@@ -25,7 +25,7 @@ pub fn ended(outcome: u8, outcomes: &[u8]) -> Set
     ensures { λ r. ⌜ r .bits ≡ set-of (length (now (outcomes .entry))) (λ s. eqb (getD (now (outcomes .entry)) s 0) outcome) ⌝ }
 {
     let n = outcomes.len();
-    let mut found = Set { bits: 0 };
+    let mut found = Set::empty();
     for s in 0..n {
         found = ended_at(outcome, s, found, outcomes);
     }

@@ -29,6 +29,8 @@ use image::accept::check;
 use image::conditions::all_settings;
 use image::conditions::condition_sets;
 use image::refusals::Refusal;
+use plain::progress::FAULT;
+use plain::progress::OUT;
 use plan::Plan;
 use run::run;
 use sets::Set;
@@ -87,8 +89,8 @@ fn run_lent(
         codes,
         steps,
     );
-    let fault = ended(2, outcomes);
-    let out = ended(3, outcomes);
+    let fault = ended(FAULT, outcomes);
+    let out = ended(OUT, outcomes);
     Ends {
         visits: visits,
         fault: fault,

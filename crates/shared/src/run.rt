@@ -12,6 +12,12 @@ use crate::turn::Turn;
 use crate::turn::after;
 use crate::turn::for_some;
 use crate::turn::for_those;
+use image::kinds::CHOICE;
+use image::kinds::IF;
+use image::kinds::SEQUENCE;
+use image::kinds::SKIP;
+use image::kinds::TRY;
+use image::kinds::WHILE;
 use image::records::Node;
 use image::records::node_at;
 use sets::Set;
@@ -34,7 +40,7 @@ pub fn run(
 {
     let node = node_at(image, plan.conditions, n);
     let kind = node.kind;
-    if kind == 23 {
+    if kind == CHOICE {
         return choose(image, plan, sets, node, turn, store, outcomes, codes, steps);
     }
     let left = begin_for(plan, turn, outcomes, codes, steps);
@@ -42,11 +48,11 @@ pub fn run(
         return left.visits;
     }
     match kind {
-        16 => left.visits,
-        18 => follow(image, plan, sets, node, left, store, outcomes, codes, steps),
-        19 => decide(image, plan, sets, node, left, store, outcomes, codes, steps),
-        20 => repeat(image, plan, sets, node, left, store, outcomes, codes, steps),
-        22 => attempt(image, plan, sets, node, left, store, outcomes, codes, steps),
+        SKIP => left.visits,
+        SEQUENCE => follow(image, plan, sets, node, left, store, outcomes, codes, steps),
+        IF => decide(image, plan, sets, node, left, store, outcomes, codes, steps),
+        WHILE => repeat(image, plan, sets, node, left, store, outcomes, codes, steps),
+        TRY => attempt(image, plan, sets, node, left, store, outcomes, codes, steps),
         _ => {
             act_for(image, plan, sets, node, left, store, outcomes, codes, steps);
             left.visits
@@ -94,8 +100,7 @@ fn choose(
     requires { ⌜ Sharing (now image) plan (now sets) (turn .rem) (turn .on) (turn .visits) (now store) (tally (now outcomes) (now codes) (now steps)) ⌝ }
     ensures { λ r. ⌜ Shares (plan .settings) (choosing plan (now (image .entry)) node (bit (turn .on .bits)) (as-shared (now (store .entry)) (tally (now (outcomes .entry)) (now (codes .entry)) (now (steps .entry))) (turn .visits))) r (now (store .exit)) (tally (now (outcomes .exit)) (now (codes .exit)) (now (steps .exit))) ⌝ }
 {
-    let a = node.a;
-    let chosen = Set { bits: sets[a] };
+    let chosen = Set::at(sets, node.a);
     let yes = for_those(turn.on.meet(chosen), turn);
     let no = turn.on.take_away(chosen);
     both(

@@ -9,13 +9,15 @@ ghost use Rattle.shared.specs.Lent.{tally};
 ghost use Rattle.shared.specs.Inner.Lent.{put};
 ghost use Rattle.shared.specs.Inner.Starting.{Sized, first-progress, Starts};
 use crate::lent::set_progress;
+use plain::progress::IDLE;
+use plain::progress::LIVE;
 use plain::progress::Progress;
 use sets::Set;
 
 fn first_outcome(set: Set, s: usize) -> u8
     ensures { λ r. ⌜ r ≡ cond (bit (set .bits) s) 1 0 ⌝ }
 {
-    if set.has(s as u64) { 1 } else { 0 }
+    if set.has(s as u64) { LIVE } else { IDLE }
 }
 
 // Setting s has its first progress.

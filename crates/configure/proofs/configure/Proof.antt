@@ -131,8 +131,7 @@ configure-ready-requires c κs =
       record {
         accepted = acc good;
         conditions-are = conditions-are good;
-        sets-right = c .before .before .condition-sets .ensures;
-        sets-there = omega (arith, conditions-are good, acc good .few-conditions, slice-aggregate-configure-ready (c .before));
+        sets-right = c .before .before .condition-sets .ensures .sets-are;
         setting-below = ltb-true _ _ (is-setting else);
       },
       nodes-are good,

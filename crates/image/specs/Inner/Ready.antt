@@ -1,8 +1,7 @@
 -- What the functions inside the bench ask for: an image that was accepted, with its conditions' sets, and a setting of it.
 use mathlib.Core.Path.{_≡_}
-use Prim.Native.Nat.{ℕ, _≤_, _<_}
+use Prim.Native.Nat.{ℕ, _<_}
 use mathlib.Core.List.{List}
-use lib.ListN.{length}
 use Rattle.image.specs.Bytes.{Bytes}
 use Rattle.image.specs.Records.{header}
 use Rattle.image.specs.Sets.{settings}
@@ -13,5 +12,4 @@ pub record Ready (l : Bytes) (conditions : ℕ) (condition-sets : List ℕ) (s :
   pub accepted : Accepted l
   pub conditions-are : conditions ≡ header l .conditions
   pub sets-right : SetsOf l conditions condition-sets
-  pub sets-there : conditions ≤ length condition-sets
   pub setting-below : s < settings l

@@ -15,6 +15,12 @@ use Rattle.image.specs.Sets.{settings, in-condition}
 pub record SetsOf (l : Bytes) (n : ℕ) (sets : List ℕ) : Type 0 where
   pub right : (k : ℕ) → k < n → (s : ℕ) → bit (getD sets k 0) s ≡ in-condition l k s
 
+-- the whole table, of 256 places: the sets of all n conditions, and from n on the empty set
+pub record TableOf (l : Bytes) (n : ℕ) (sets : List ℕ) : Type 0 where
+  pub sets-are : SetsOf l n sets
+  pub empty-beyond : (k : ℕ) → n ≤ k → getD sets k 0 ≡ 0
+  pub length-is : length sets ≡ 256
+
 -- what is known when the set of condition k is worked out
 pub record Turn (l : Bytes) (k full : ℕ) (sets : List ℕ) : Type 0 where
   pub room : 8 + 4 * k + 4 ≤ length l

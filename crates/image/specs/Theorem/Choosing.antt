@@ -1,6 +1,6 @@
 -- A choice of an accepted image: its condition is there, its parts are lower nodes, and the condition's set says which part is chosen.
 use mathlib.Core.Path.{_≡_, refl, sym, _∙_, ap}
-use mathlib.Core.Bool.{Bool, true, false, false≢true}
+use mathlib.Core.Bool.{Bool, true, false, cond, false≢true}
 use mathlib.Core.List.{List}
 use Prim.Native.Nat.{ℕ, _<_}
 use native.Mathlib.Omega.{arith}
@@ -54,3 +54,8 @@ pub chosen-is : (l : List ℕ) (conditions : ℕ) (sets : List ℕ) (s a : ℕ) 
     → bit (getD sets a 0) s ≡ holds (condition l a) s
 unfolding in-condition
 chosen-is l conditions sets s a r h = r .sets-right .right a (omega (arith, r .conditions-are)) s ∙ rw (lt-ltb s (settings l) (r .setting-below))
+
+-- the side that a choice takes in a setting is lower, and is the one that its condition says
+pub chosen-lower : (u : Bool) (b c n : ℕ) → b < n → c < n → cond u b c < n
+chosen-lower true b c n hb hc = hb
+chosen-lower false b c n hb hc = hc

@@ -70,8 +70,7 @@ run-requires c κs =
         ready = record {
           accepted = acc start;
           conditions-are = conditions-are start;
-          sets-right = c .before .before .before .condition-sets .ensures;
-          sets-there = omega (arith, conditions-are start, acc start .few-conditions, slice-aggregate-run (c .before .before));
+          sets-right = c .before .before .before .condition-sets .ensures .sets-are;
           setting-below = setting-0 (l start);
         };
         node-below = below;

@@ -1,5 +1,4 @@
 -- `run_lent` meets its contract: all settings are started, the root is run, and who has ended how is read off.
-use native.Mathlib.Omega.{arith}
 use borrow.Author.Needs.{needs}
 use Rattle.shared.specs.Lent.{tally}
 use Rattle.shared.proofs.Carrying.{some-node, can-start, root-is, can-run, few-outcomes, ended-as-meant}
@@ -39,8 +38,7 @@ run-requires : tie.Need-run-requires
 run-requires c κs =
     let at : tie.After-start-all = c .before .before .before .before .before .before .before .before .before .before .before in (
       root-is (start at .pre),
-      can-run (start at .pre) {T′ = tally _ _ _} (at .start-all .ensures) (at .before .before .before .before .condition-sets .ensures)
-          (omega (arith, slice-aggregate-run (c .before .before .before .before))),
+      can-run (start at .pre) {T′ = tally _ _ _} (at .start-all .ensures) (at .before .before .before .before .condition-sets .ensures .sets-are),
     )
 
 ended-requires : tie.Need-ended-requires

@@ -1,7 +1,7 @@
 -- `write` and `write_slot` meet their contracts together. The measure of node n is 2n + 2, and of a field that names node m it is 2m + 3: a node's fields
 -- name lower nodes, so each call's is less. What is written follows from the laws of Nodes and Branches.
-use mathlib.Core.Path.{_≡_, refl, sym, _∙_}
-use mathlib.Core.Bool.{Bool, true, false, cond}
+use mathlib.Core.Path.{_≡_, refl, sym, subst, _∙_}
+use mathlib.Core.Bool.{true, cond}
 use Prim.Native.Nat.{ℕ, _+_, _*_, _≤_, _<_}
 use mathlib.Core.List.{List}
 use native.Mathlib.Omega.{arith}
@@ -24,10 +24,11 @@ use Rattle.configure.proofs.write.write_slot.Kinds as write-slot-kinds
 use Rattle.configure.proofs.write.+write+write_slot.Lts-write_slot as write-slot-lts
 use Rattle.configure.proofs.write.own_word.Reads as own-word-reads
 use Rattle.configure.proofs.write.put.Reads as put-reads
-use Rattle.image.proofs.fits.layout.Reads as layout-reads
-use Rattle.image.proofs.fits.names_node.Reads as names-node-reads
+use Rattle.image.proofs.choice.chosen.Reads as chosen-reads
+use Rattle.image.proofs.kinds.is_choice.Reads as is-choice-reads
+use Rattle.image.proofs.kinds.layout.Reads as layout-reads
+use Rattle.image.proofs.kinds.names_node.Reads as names-node-reads
 use Rattle.image.proofs.records.node_at.Reads as node-at-reads
-use Rattle.sets.proofs.Set.has.Reads as has-reads
 use Rattle.configure.proofs.write.+write+write_slot.{statement}
 use Rattle.configure.proofs.write.+write+write_slot.Tie.{close}
 
@@ -55,12 +56,14 @@ abbrev write-uses : ℕ → write-lts.Claims
 write-uses t = (
   node-at-reads.Asked,
   node-at-reads.Learnt,
-  layout-reads.Asked,
-  layout-reads.Learnt,
-  has-reads.Asked,
-  has-reads.Learnt,
+  is-choice-reads.Asked,
+  is-choice-reads.Learnt,
+  chosen-reads.Asked,
+  chosen-reads.Learnt,
   write-below t,
   write.Post,
+  layout-reads.Asked,
+  layout-reads.Learnt,
   write-slot-below t,
   write-slot.Post,
   own-word-reads.Asked,
@@ -74,9 +77,9 @@ write-slot-uses t = (names-node-reads.Asked, names-node-reads.Learnt, write-belo
 
 -- ---- what is known once the node is read
 
-module _ (t : ℕ) (c : write-lts.After-layout (write-uses t) (write-at t) write.Post) where
+module _ (t : ℕ) (c : write-lts.After-node-at (write-uses t) (write-at t) write.Post) where
   abbrev start : write-lts.Start (write-uses t) (write-at t) write.Post
-  start = c .before .before .before .before .before
+  start = c .before .before .before .before
 
   abbrev l : List ℕ
   l = start .args .image .now
@@ -94,73 +97,60 @@ module _ (t : ℕ) (c : write-lts.After-layout (write-uses t) (write-at t) write
   out = start .args .out .now
 
   abbrev ν : Node
-  ν = c .before .node-at .result
+  ν = c .node-at .result
 
-  abbrev digits : ℕ
-  digits = c .layout .result
-
-  node : Nodes.Read l (start .args .conditions) (start .args .sets .now) s n at (length out) ν digits
-  node = record { writing = start .pre .1; is-node = c .before .node-at .ensures; is-layout = c .layout .ensures }
+  node : Nodes.Read l (start .args .conditions) (start .args .sets .now) s n at (length out) ν
+  node = record { writing = start .pre .1; is-node = c .node-at .ensures }
 
 write-node-at-requires : (t : ℕ) → write-lts.Need-node-at-requires (write-uses t) (write-at t) write.Post
 write-node-at-requires t c κs = search needs
 
-write-layout-requires : (t : ℕ) → write-lts.Need-layout-requires (write-uses t) (write-at t) write.Post
-write-layout-requires t c κs = search needs
+write-is-choice-requires : (t : ℕ) → write-lts.Need-is-choice-requires (write-uses t) (write-at t) write.Post
+write-is-choice-requires t c κs = search needs
 
 -- ---- a choice
 
-module _ (t : ℕ) (c : write-lts.After-has (write-uses t) (write-at t) write.Post) where
-  abbrev read : write-lts.After-layout (write-uses t) (write-at t) write.Post
+write-chosen-requires : (t : ℕ) → write-lts.Need-chosen-requires (write-uses t) (write-at t) write.Post
+write-chosen-requires t c κs = search needs
+
+module _ (t : ℕ) (c : write-lts.After-chosen (write-uses t) (write-at t) write.Post) where
+  abbrev read : write-lts.After-node-at (write-uses t) (write-at t) write.Post
   read = c .before .before .before
 
-  part : (u : Bool) → c .has .result ≡ u → Nodes.Chosen (l t read) (s t read) (n t read) (cond u (ν t read .b) (ν t read .c))
-  part u e = Nodes.chosen (node t read) u (c .before .before .if1 .taken) (sym (c .has .ensures) ∙ e)
+  part : Nodes.Chosen (l t read) (s t read) (n t read) (c .chosen .result)
+  part = subst (λ x. Nodes.Chosen (l t read) (s t read) (n t read) x) (sym (c .chosen .ensures))
+      (Nodes.chosen (node t read) (sym (c .before .before .is-choice .ensures) ∙ c .before .if1 .taken))
 
   -- the part may be written in the node's place
-  part-next : {x : ℕ} → Nodes.Chosen (l t read) (s t read) (n t read) x
-      → (2 * x + 2 < t) × Writing (l t read) (start t read .args .conditions) (start t read .args .sets .now) (s t read) x (at t read) (length (out t read))
-  part-next chosen = (omega (arith, chosen .is-lower, start t read .pre .0), Nodes.part-writing (node t read) chosen)
-
-write-mul-t21 : (t : ℕ) → write-lts.Need-mul-t21 (write-uses t) (write-at t) write.Post
-write-mul-t21 t c = omega (arith, Nodes.condition-there (node t (c .before)) (c .if1 .taken))
-
-write-shared-slice-read-t23 : (t : ℕ) → write-lts.Need-shared-slice-read-t23 (write-uses t) (write-at t) write.Post
-write-shared-slice-read-t23 t c = Nodes.condition-there (node t (c .before .before)) (c .before .if1 .taken)
-
-write-has-requires : (t : ℕ) → write-lts.Need-has-requires (write-uses t) (write-at t) write.Post
-write-has-requires t c κs = search needs
+  part-next : (2 * c .chosen .result + 2 < t)
+      × Writing (l t read) (start t read .args .conditions) (start t read .args .sets .now) (s t read) (c .chosen .result) (at t read) (length (out t read))
+  part-next = (omega (arith, part .is-lower, start t read .pre .0), Nodes.part-writing (node t read) part)
 
 write-write-requires : (t : ℕ) → write-lts.Need-write-requires (write-uses t) (write-at t) write.Post
-write-write-requires t c κs = part-next t (c .before .before) (part t (c .before .before) true (c .before .if2 .taken))
+write-write-requires t c κs = part-next t (c .before)
 
 write-same-length : (t : ℕ) → write-lts.Need-same-length (write-uses t) (write-at t) write.Post
 write-same-length t c = search needs
 
 write-returns : (t : ℕ) → write-lts.Need-returns (write-uses t) (write-at t) write.Post
 write-returns t c =
-    let asked = c .before .before .before .before .before in
-    Nodes.part-wrote (node t (read t asked)) (part t asked true (c .before .before .before .before .if2 .taken)) (c .before .before .write .ensures)
-
-write-write-requires-2 : (t : ℕ) → write-lts.Need-write-requires-2 (write-uses t) (write-at t) write.Post
-write-write-requires-2 t c κs = part-next t (c .before .before) (part t (c .before .before) false (c .before .if2 .left))
-
-write-same-length-2 : (t : ℕ) → write-lts.Need-same-length-2 (write-uses t) (write-at t) write.Post
-write-same-length-2 t c = search needs
-
-write-returns-2 : (t : ℕ) → write-lts.Need-returns-2 (write-uses t) (write-at t) write.Post
-write-returns-2 t c =
-    let asked = c .before .before .before .before .before in
-    Nodes.part-wrote (node t (read t asked)) (part t asked false (c .before .before .before .before .if2 .left)) (c .before .before .write2 .ensures)
+    let chosen = c .before .before .before .before in
+    Nodes.part-wrote (node t (read t chosen)) (part t chosen) (c .before .before .write .ensures)
 
 -- ---- any other node
 
-module _ (t : ℕ) (c : write-lts.Else1 (write-uses t) (write-at t) write.Post) where
-  abbrev own : write-lts.After-layout (write-uses t) (write-at t) write.Post
-  own = c .before
+write-layout-requires : (t : ℕ) → write-lts.Need-layout-requires (write-uses t) (write-at t) write.Post
+write-layout-requires t c κs = search needs
 
-  slots : Nodes.Slots (l t own) (s t own) (n t own) (ν t own) (digits t own)
-  slots = Nodes.slots (node t own) (c .if1 .left)
+module _ (t : ℕ) (c : write-lts.After-layout (write-uses t) (write-at t) write.Post) where
+  abbrev own : write-lts.After-node-at (write-uses t) (write-at t) write.Post
+  own = c .before .before .before
+
+  other : Nodes.Other (ν t own) (c .layout .result)
+  other = record { is-layout = c .layout .ensures; no-choice = sym (c .before .before .is-choice .ensures) ∙ c .before .if1 .left }
+
+  slots : Nodes.Slots (l t own) (s t own) (n t own) (ν t own) (c .layout .result)
+  slots = Nodes.slots (node t own) other
 
   -- a child may be written where it ends no later than the node
   child : {slot value next space : ℕ} → (names-node slot ≡ true → value < n t own)
@@ -171,24 +161,21 @@ module _ (t : ℕ) (c : write-lts.Else1 (write-uses t) (write-at t) write.Post) 
 
 write-write-slot-requires : (t : ℕ) → write-lts.Need-write-slot-requires (write-uses t) (write-at t) write.Post
 write-write-slot-requires t c κs =
-    let other = c .before in
-    let parts = slots t other in
-    child t other (search needs) (omega (arith, parts .size-is)) refl
+    let digits = c .before in
+    child t digits (slots t digits .a-lower) (omega (arith, slots t digits .size-is)) refl
 
 write-write-slot-requires-2 : (t : ℕ) → write-lts.Need-write-slot-requires-2 (write-uses t) (write-at t) write.Post
 write-write-slot-requires-2 t c κs =
-    let other = c .before .before .before .before .before in
-    let parts = slots t other in
+    let digits = c .before .before .before .before .before in
     let a = c .before .before .before .write-slot in
-    child t other (search needs) (omega (arith, parts .size-is, a .ensures .next-is)) (search needs)
+    child t digits (slots t digits .b-lower) (omega (arith, slots t digits .size-is, a .ensures .next-is)) (search needs)
 
 write-write-slot-requires-3 : (t : ℕ) → write-lts.Need-write-slot-requires-3 (write-uses t) (write-at t) write.Post
 write-write-slot-requires-3 t c κs =
-    let other = c .before .before .before .before .before .before .before .before .before in
-    let parts = slots t other in
+    let digits = c .before .before .before .before .before .before .before .before .before in
     let a = c .before .before .before .before .before .before .before .write-slot in
     let b = c .before .before .before .write-slot2 in
-    child t other (search needs) (omega (arith, parts .size-is, a .ensures .next-is, b .ensures .next-is)) (search needs)
+    child t digits (slots t digits .c-lower) (omega (arith, slots t digits .size-is, a .ensures .next-is, b .ensures .next-is)) (search needs)
 
 -- the children are written
 module _ (t : ℕ) (c : write-lts.After-write-slot3 (write-uses t) (write-at t) write.Post) where
@@ -198,13 +185,16 @@ module _ (t : ℕ) (c : write-lts.After-write-slot3 (write-uses t) (write-at t) 
   abbrev in-b : write-lts.After-write-slot2 (write-uses t) (write-at t) write.Post
   in-b = c .before .before .before .before
 
-  abbrev whole : write-lts.After-layout (write-uses t) (write-at t) write.Post
-  whole = in-a .before .before .before
+  abbrev digits : write-lts.After-layout (write-uses t) (write-at t) write.Post
+  digits = in-a .before .before
+
+  abbrev whole : write-lts.After-node-at (write-uses t) (write-at t) write.Post
+  whole = own t digits
 
   finished : Nodes.Finished (l t whole) (s t whole) (n t whole) (at t whole) (out t whole) (c .write-slot3 .last .1 .1 .1 .1 .1 .1 .1 .0) (ν t whole)
       (in-a .write-slot .result) (in-b .write-slot2 .result) (c .write-slot3 .result)
   finished =
-      Nodes.finished (node t whole) (in-a .before .before .if1 .left) (in-a .write-slot .ensures) (in-b .write-slot2 .ensures) (c .write-slot3 .ensures)
+      Nodes.finished (node t whole) (other t digits) (in-a .write-slot .ensures) (in-b .write-slot2 .ensures) (c .write-slot3 .ensures)
 
   few : c .write-slot3 .result + 1 ≤ 1024
   few = omega (arith, finished .next-is, node t whole .writing .few)
@@ -227,11 +217,11 @@ write-put-requires t c κs =
 write-add-result : (t : ℕ) → write-lts.Need-add-result (write-uses t) (write-at t) write.Post
 write-add-result t c = omega (arith, few t (c .before .before .before .before .before .before .before))
 
-write-same-length-3 : (t : ℕ) → write-lts.Need-same-length-3 (write-uses t) (write-at t) write.Post
-write-same-length-3 t c = search needs
+write-same-length-2 : (t : ℕ) → write-lts.Need-same-length-2 (write-uses t) (write-at t) write.Post
+write-same-length-2 t c = search needs
 
-write-returns-3 : (t : ℕ) → write-lts.Need-returns-3 (write-uses t) (write-at t) write.Post
-write-returns-3 t c =
+write-returns-2 : (t : ℕ) → write-lts.Need-returns-2 (write-uses t) (write-at t) write.Post
+write-returns-2 t c =
     let own = c .before .before .before .before in
     finished t (own .before .before .before) .wrote (own .own-word .ensures) (c .before .before .put .ensures)
 
@@ -262,16 +252,12 @@ pub +write+write-slot-spec : {M : Type 1} → statement M
     (write-at t)
     write.Post
     (write-node-at-requires t)
-    (write-layout-requires t)
-    (write-mul-t21 t)
-    (write-shared-slice-read-t23 t)
-    (write-has-requires t)
+    (write-is-choice-requires t)
+    (write-chosen-requires t)
     (write-write-requires t)
     (write-same-length t)
     (write-returns t)
-    (write-write-requires-2 t)
-    (write-same-length-2 t)
-    (write-returns-2 t)
+    (write-layout-requires t)
     (write-write-slot-requires t)
     (write-write-slot-requires-2 t)
     (write-write-slot-requires-3 t)
@@ -280,8 +266,8 @@ pub +write+write-slot-spec : {M : Type 1} → statement M
     (write-add-put t)
     (write-put-requires t)
     (write-add-result t)
-    (write-same-length-3 t)
-    (write-returns-3 t))
+    (write-same-length-2 t)
+    (write-returns-2 t))
     λ t. write-slot-lts.spec
     (write-slot-uses t)
     (write-slot-at t)

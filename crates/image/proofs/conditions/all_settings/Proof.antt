@@ -22,6 +22,9 @@ enum-known-all c = search needs
 enum-told : tie.Need-enum-told
 enum-told c = search needs
 
+empty-requires : tie.Need-empty-requires
+empty-requires c κs = search needs
+
 returns : tie.Need-returns
 returns c s =
     let call = c .before .before .before .full in
@@ -31,11 +34,11 @@ returns c s =
 returns-2 : tie.Need-returns-2
 unfolding fullOf
 returns-2 c =
-    let call = c .before .before .full in
-    let few = c .before .before .before .pre in
-    let e : refused 3 0 ≡ judged (ltb 6 (c .before .before .before .args .options)) (c .before .before .before .args .options) =
-    ap verdictOf (sym (c .enum-told .given .1)) ∙ call .ensures .0 in
-    absurd (never _ (rw (le-ltb 6 _ few) at e))
+    let call = c .before .before .before .full in
+    let start = c .before .before .before .before in
+    let e : refused 3 0 ≡ judged (ltb 6 (start .args .options)) (start .args .options) =
+    ap verdictOf (sym (c .before .enum-told .given .1)) ∙ call .ensures .0 in
+    absurd (never _ (rw (le-ltb 6 _ (start .pre)) at e))
 
 pub all-settings-spec : {M : Type 1} → statement M
-all-settings-spec = tie.close (tie.spec full-requires enum-known-all enum-told returns returns-2)
+all-settings-spec = tie.close (tie.spec full-requires enum-known-all enum-told empty-requires returns returns-2)

@@ -73,14 +73,11 @@ condition-sets-requires c κs =
 number-below : (c : tie.Else1) → start (c .before .before .before) .args .number < header (l (c .before .before .before)) .conditions
 number-below c = omega (arith, conditions-are (c .before .before .before), c .if1 .left)
 
-in-table : (c : tie.Else1) → start (c .before .before .before) .args .number < 256
-in-table c = omega (arith, number-below c, (is-accepted (c .before .before .before)) .few-conditions)
+slice-aggregate-at : tie.Need-slice-aggregate-at
+slice-aggregate-at c = search needs
 
-mul-t11 : tie.Need-mul-t11
-mul-t11 c = omega (arith, in-table (c .before))
-
-array-read-t14 : tie.Need-array-read-t14
-array-read-t14 c = in-table (c .before)
+at-requires : tie.Need-at-requires
+at-requires c κs = search needs
 
 returns-2 : tie.Need-returns-2
 returns-2 c =
@@ -88,9 +85,11 @@ returns-2 c =
 
 returns-3 : tie.Need-returns-3
 returns-3 c =
-    let at : tie.After-shape = c .before .before .before .before in
-    found (l at) (start at .args .number) (is-accepted at) (number-below (c .before)) _
-    (c .condition-sets .ensures .right (start at .args .number) (omega (arith, number-below (c .before), conditions-are at)))
+    let at : tie.After-shape = c .before .before .before .before .before .before in
+    let below = number-below (c .before .before .before) in
+    let sets = c .before .before .condition-sets .ensures .sets-are in
+    found (l at) (start at .args .number) (is-accepted at) below _
+    λ s. ap (λ x. bit x s) (c .at .ensures) ∙ sets .right (start at .args .number) (omega (arith, below, conditions-are at)) s
 
 pub condition-set-spec : {M : Type 1} → statement M
 condition-set-spec =
@@ -101,7 +100,7 @@ condition-set-spec =
     enum-known-shape
     returns
     condition-sets-requires
-    mul-t11
-    array-read-t14
+    slice-aggregate-at
+    at-requires
     returns-2
     returns-3)

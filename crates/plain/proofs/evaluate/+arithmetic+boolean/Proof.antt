@@ -5,8 +5,8 @@ use native.Mathlib.Omega.{arith}
 use borrow.Author.Needs.{needs}
 use borrow.Fn.Kinds.{In, Out}
 use borrow.Fn.PlainCycle.{Measures, is, falls, and}
-use Rattle.image.specs.Layout.{kinds, layout, names-node, is-choice}
-use Rattle.plain.proofs.Evaluation.{At, through, room, call-a, call-b, call-c, call-side, call-chosen, set-there, variable-there, number-is, variable-is, sum-is, pick-is, choiceᵃ-is, falseᵇ-is, trueᵇ-is, notᵇ-is, andᵇ-is, less-is, choiceᵇ-is, arithmetic-kind, boolean-kind}
+use Rattle.image.specs.Layout.{kinds, layout, names-node}
+use Rattle.plain.proofs.Evaluation.{At, through, room, call-a, call-b, call-c, call-side, call-chosen, variable-there, number-is, variable-is, sum-is, pick-is, choiceᵃ-is, falseᵇ-is, trueᵇ-is, notᵇ-is, andᵇ-is, less-is, choiceᵇ-is, arithmetic-kind, boolean-kind}
 use Rattle.plain.proofs.evaluate.arithmetic.Reads as arithmetic
 use Rattle.plain.proofs.evaluate.arithmetic.Kinds as arithmetic-kinds
 use Rattle.plain.proofs.evaluate.+arithmetic+boolean.Lts-arithmetic as arithmetic-lts
@@ -17,8 +17,8 @@ use Rattle.image.proofs.records.node_at.Reads as node-at-reads
 use Rattle.imp.proofs.less.Reads as less-reads
 use Rattle.imp.proofs.signed.Reads as signed-reads
 use Rattle.imp.proofs.sum.Reads as sum-reads
-use Rattle.plain.proofs.evaluate.chosen.Reads as chosen-reads
-use Rattle.plain.proofs.evaluate.side.Reads as side-reads
+use Rattle.image.proofs.choice.chosen.Reads as chosen-reads
+use Rattle.image.proofs.choice.side.Reads as side-reads
 use Rattle.plain.proofs.evaluate.+arithmetic+boolean.{statement}
 use Rattle.plain.proofs.evaluate.+arithmetic+boolean.Tie.{close}
 
@@ -165,8 +165,7 @@ arithmetic-arithmetic-requires-3 t c κs =
     call-side p (c .before .boolean .result) (c .side .ensures) (call-b p 3 k refl) (call-c p 3 k refl)
 
 arithmetic-chosen-requires : (t : ℕ) → Of-arithmetic arithmetic-lts.Need-chosen-requires t
-unfolding layout kinds is-choice
-arithmetic-chosen-requires t c κs = set-there (arithmetic-here t (c .before)) 4 (is-4 t c) refl
+arithmetic-chosen-requires t c κs = search needs
 
 arithmetic-arithmetic-requires-4 : (t : ℕ) → Of-arithmetic arithmetic-lts.Need-arithmetic-requires-4 t
 unfolding layout kinds names-node
@@ -249,8 +248,7 @@ boolean-less-requires : (t : ℕ) → Of-boolean boolean-lts.Need-less-requires 
 boolean-less-requires t c κs = search needs
 
 boolean-chosen-requires : (t : ℕ) → Of-boolean boolean-lts.Need-chosen-requires t
-unfolding layout kinds is-choice
-boolean-chosen-requires t c κs = set-there (boolean-here t (c .before)) 13 (is-13 t c) refl
+boolean-chosen-requires t c κs = search needs
 
 boolean-boolean-requires-4 : (t : ℕ) → Of-boolean boolean-lts.Need-boolean-requires-4 t
 unfolding layout kinds names-node

@@ -3,11 +3,11 @@ use mathlib.Core.Path.{_≡_, refl, sym, _∙_, ap}
 use native.Mathlib.Omega.{arith}
 use borrow.Author.Needs.{needs}
 use borrow.Author.Tests.{eq-eqb}
-use Rattle.image.specs.Layout.{kinds, layout, names-node, is-choice}
+use Rattle.image.specs.Layout.{kinds, layout, names-node}
 use Rattle.plain.specs.Inner.Progress.{state-of}
 use Rattle.plain.specs.Inner.Running.{Began}
 use Rattle.plain.proofs.Beginning.{stays, charged}
-use Rattle.plain.proofs.Evaluation.{At, room, call-a, call-b, call-c, call-chosen, call-decided, set-there, statement-kind}
+use Rattle.plain.proofs.Evaluation.{At, room, call-a, call-b, call-c, call-chosen, call-decided, statement-kind}
 use Rattle.plain.proofs.Statements.{last-kind, does, child-run, arrives, on, handled-none, handled-by, stored-below, choice-does, while-does, skip-does, assign-does, sequence-does, if-does, throw-does, try-does}
 use Rattle.plain.proofs.Loops.{Turning, turns-left, starting, turned, nearer, ending}
 use Prim.Native.Nat.{ℕ, _+_, _*_, _<_, max}
@@ -23,7 +23,7 @@ use Rattle.plain.proofs.run.run.Reads as run
 use Rattle.plain.proofs.run.run.Kinds as run-kinds
 use Rattle.plain.proofs.run.+attempt+repeat+run.Lts-run as run-lts
 use Rattle.image.proofs.records.node_at.Reads as node-at-reads
-use Rattle.plain.proofs.evaluate.chosen.Reads as chosen-reads
+use Rattle.image.proofs.choice.chosen.Reads as chosen-reads
 use Rattle.plain.proofs.step.assign.Reads as assign-reads
 use Rattle.plain.proofs.step.begin.Reads as begin-reads
 use Rattle.plain.proofs.step.decided.Reads as decided-reads
@@ -219,8 +219,7 @@ run-node-at-requires : (t : ℕ) → Of-run run-lts.Need-node-at-requires t
 run-node-at-requires t c κs = room (c .before .before .pre .1 .evaluating)
 
 run-chosen-requires : (t : ℕ) → Of-run run-lts.Need-chosen-requires t
-unfolding layout kinds is-choice
-run-chosen-requires t c κs = set-there (run-here t (c .before)) 23 (c .if1 .taken) refl
+run-chosen-requires t c κs = search needs
 
 run-run-requires : (t : ℕ) → Of-run run-lts.Need-run-requires t
 unfolding layout kinds names-node

@@ -18,12 +18,15 @@ abbrev μ-loop : tie.MeasureT-loop
 
 returns : tie.Need-returns Inv-loop μ-loop
 returns c =
-    let start : tie.Start Inv-loop μ-loop = c .before .before .before .before .before in
+    let start : tie.Start Inv-loop μ-loop = c .before .before .before .before .before .before in
     let all : c .before .loop .s ≡ start .args .plan .settings = omega arith in
     found-all (start .pre .below) (rw all at (c .before .loop .inv .1))
 
+empty-requires : tie.Need-empty-requires Inv-loop μ-loop
+empty-requires c κs = search needs
+
 loop-holds : tie.Need-loop-holds Inv-loop μ-loop
-loop-holds c = (omega arith, found-none)
+loop-holds c = (omega arith, rw (c .empty .ensures) found-none)
 
 loop-again : tie.Need-loop-again Inv-loop μ-loop
 loop-again c =
@@ -31,7 +34,7 @@ loop-again c =
 
 ask-at-requires : tie.Need-ask-at-requires Inv-loop μ-loop
 ask-at-requires c κs =
-    record { every = c .before .before .before .before .before .pre .every; setting-below = omega arith }
+    record { every = c .before .before .before .before .before .before .pre .every; setting-below = omega arith }
 
 add-s : tie.Need-add-s Inv-loop μ-loop
 add-s c = search needs
@@ -42,4 +45,4 @@ loop-less c = search needs
 pub ask-for-spec : {M : Type 1} → statement M
 ask-for-spec =
     tie.close
-    (tie.spec Inv-loop μ-loop loop-holds ask-at-requires add-s loop-less loop-again returns)
+    (tie.spec Inv-loop μ-loop empty-requires loop-holds ask-at-requires add-s loop-less loop-again returns)

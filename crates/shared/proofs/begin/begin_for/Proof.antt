@@ -2,6 +2,7 @@
 use mathlib.Core.Path.{_≡_, sym, _∙_}
 use Prim.Native.Nat.{_-_, _≤_}
 use native.Mathlib.Omega.{arith}
+use borrow.Author.Needs.{needs}
 use Rattle.shared.specs.Lent.{tally}
 use Rattle.shared.proofs.Beginning.{BegunBelow, none-begun, one-more, to-go, all-begun}
 use Rattle.shared.proofs.begin.begin_for.Statement.{statement}
@@ -17,7 +18,7 @@ abbrev μ-loop : tie.MeasureT-loop
 -- in the end all settings are begun
 module _ (c : tie.After-loop Inv-loop μ-loop) where
   abbrev start : tie.Start Inv-loop μ-loop
-  start = c .before .before .before .before
+  start = c .before .before .before .before .before
 
   all : BegunBelow (start .args .plan .settings) (start .args .plan .budget) (start .args .turn .on) (start .args .plan .settings)
       (tally (start .args .outcomes .now) (start .args .codes .now) (start .args .steps .now))
@@ -29,8 +30,11 @@ module _ (c : tie.After-loop Inv-loop μ-loop) where
 returns : tie.Need-returns Inv-loop μ-loop
 returns c = all-begun (start (c .before) .pre) (all (c .before)) (c .counted .ensures)
 
+empty-requires : tie.Need-empty-requires Inv-loop μ-loop
+empty-requires c κs = search needs
+
 loop-holds : tie.Need-loop-holds Inv-loop μ-loop
-loop-holds c = (omega arith, none-begun (c .before .before .pre .tallied))
+loop-holds c = (omega arith, none-begun (c .empty .ensures) (c .before .before .before .pre .tallied))
 
 loop-again : tie.Need-loop-again Inv-loop μ-loop
 loop-again c =
@@ -42,7 +46,7 @@ loop-less c = omega arith
 
 begin-at-requires : tie.Need-begin-at-requires Inv-loop μ-loop
 begin-at-requires c κs =
-    let start : tie.Start Inv-loop μ-loop = c .before .before .before .before .before .before .before in
+    let start : tie.Start Inv-loop μ-loop = c .before .before .before .before .before .before .before .before in
     record {
       setting-below = omega arith;
       few = start .pre .few;
@@ -70,6 +74,7 @@ begin-for-spec =
     (tie.spec
     Inv-loop
     μ-loop
+    empty-requires
     loop-holds
     begin-at-requires
     add-s

@@ -22,18 +22,21 @@ abbrev μ-loop : tie.MeasureT-loop
 
 returns : tie.Need-returns Inv-loop μ-loop
 returns c =
-    let st : tie.Start Inv-loop μ-loop = c .before .before .before in
+    let st : tie.Start Inv-loop μ-loop = c .before .before .before .before in
     let all : c .before .loop .s ≡ length (st .args .outcomes .now) = omega arith in
     found-set (c .before .loop .found) (st .pre) (c .before .loop .inv .1) (rw all at (c .before .loop .inv .2))
 
+empty-requires : tie.Need-empty-requires Inv-loop μ-loop
+empty-requires c κs = search needs
+
 loop-holds : tie.Need-loop-holds Inv-loop μ-loop
-loop-holds c = (omega arith, omega arith, found-none)
+loop-holds c = (omega arith, omega (arith, c .empty .ensures), rw (c .empty .ensures) found-none)
 
 loop-again : tie.Need-loop-again Inv-loop μ-loop
 loop-again c = (omega arith, omega arith, rw add-one (found-next (c .before .before .loop .inv .2) (c .ended-at .ensures)))
 
 ended-at-requires : tie.Need-ended-at-requires Inv-loop μ-loop
-ended-at-requires c κs = (omega arith, omega (arith, c .before .before .before .pre))
+ended-at-requires c κs = (omega arith, omega (arith, c .before .before .before .before .pre))
 
 add-s : tie.Need-add-s Inv-loop μ-loop
 add-s c = search needs
@@ -44,4 +47,4 @@ loop-less c = search needs
 pub ended-spec : {M : Type 1} → statement M
 ended-spec =
     tie.close
-    (tie.spec Inv-loop μ-loop loop-holds ended-at-requires add-s loop-less loop-again returns)
+    (tie.spec Inv-loop μ-loop empty-requires loop-holds ended-at-requires add-s loop-less loop-again returns)

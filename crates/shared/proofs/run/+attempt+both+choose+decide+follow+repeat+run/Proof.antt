@@ -64,8 +64,7 @@ pub +attempt+both+choose+decide+follow+repeat+run-spec : {M : Type 1} → statem
     (λ t. choose-lts.spec (choose-uses t)
     (choose-at t)
     choose.Post
-    (Choose.mul-t14 t)
-    (Choose.shared-slice-read-t16 t)
+    (Choose.at-requires t)
     (Choose.meet-requires t)
     (Choose.for-those-requires t)
     (Choose.take-away-requires t)

@@ -3,7 +3,7 @@ use native.Mathlib.Omega.{arith}
 use borrow.Author.Needs.{needs}
 use Rattle.sets.specs.Member.{bit}
 use Rattle.shared.proofs.Keeping.{reaching}
-use Rattle.shared.proofs.Parting.{for-some-of, set-there, set-near, parts-chosen}
+use Rattle.shared.proofs.Parting.{for-some-of, parts-chosen}
 use Prim.Native.Nat.{ℕ}
 use Rattle.shared.proofs.run.+attempt+both+choose+decide+follow+repeat+run.Lts-choose as choose-lts
 use Rattle.shared.proofs.run.+attempt+both+choose+decide+follow+repeat+run.Proof.Claims.{Of-choose}
@@ -20,7 +20,7 @@ pub returns : (t : ℕ) → Of-choose choose-lts.Need-returns t
 returns t c =
     let others = parted t (c .before .before .before .before .before .before .before) in
     let start = started t others in
-    reaching (parts-chosen (start .pre .1 .1) (start .pre .1 .0) (others .before .before .meet .result) (others .take-away .result) (others .before .before .meet .ensures) (others .take-away .ensures) _)
+    reaching (parts-chosen (start .pre .1 .1) (start .pre .1 .0) _ (others .before .before .meet .result) (others .take-away .result) (others .before .before .before .at .ensures) (others .before .before .meet .ensures) (others .take-away .ensures) _)
     (rw (others .before .for-those .ensures) at (c .before .before .before .before .before .before .both .ensures))
 
 pub both-requires : (t : ℕ) → Of-choose choose-lts.Need-both-requires t
@@ -37,11 +37,8 @@ both-requires t c κs =
       ),
     )
 
-pub mul-t14 : (t : ℕ) → Of-choose choose-lts.Need-mul-t14 t
-mul-t14 t c = let start = c .before .before .before .before in omega (arith, set-near (start .pre .1 .1) (start .pre .1 .0))
-
-pub shared-slice-read-t16 : (t : ℕ) → Of-choose choose-lts.Need-shared-slice-read-t16 t
-shared-slice-read-t16 t c = let start = c .before .before .before .before .before in set-there (start .pre .1 .1) (start .pre .1 .0)
+pub at-requires : (t : ℕ) → Of-choose choose-lts.Need-at-requires t
+at-requires t c κs = search needs
 
 pub meet-requires : (t : ℕ) → Of-choose choose-lts.Need-meet-requires t
 meet-requires t c κs = search needs

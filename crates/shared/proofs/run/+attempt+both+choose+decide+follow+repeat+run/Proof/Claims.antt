@@ -24,6 +24,7 @@ use Rattle.shared.proofs.run.run.Reads as run
 use Rattle.shared.proofs.run.run.Kinds as run-kinds
 use Rattle.shared.proofs.run.+attempt+both+choose+decide+follow+repeat+run.Lts-run as run-lts
 use Rattle.image.proofs.records.node_at.Reads as node-at-reads
+use Rattle.sets.proofs.Set.at.Reads as at-reads
 use Rattle.sets.proofs.Set.meet.Reads as meet-reads
 use Rattle.sets.proofs.Set.take_away.Reads as take-away-reads
 use Rattle.shared.proofs.act.act_for.Reads as act-for-reads
@@ -103,7 +104,7 @@ abbrev pub both-uses : ℕ → both-lts.Claims
 both-uses t = (run-below t, run.Post, for-those-reads.Asked, for-those-reads.Learnt, after-reads.Asked, after-reads.Learnt)
 
 abbrev pub choose-uses : ℕ → choose-lts.Claims
-choose-uses t = (meet-reads.Asked, meet-reads.Learnt, for-those-reads.Asked, for-those-reads.Learnt, take-away-reads.Asked, take-away-reads.Learnt, both-below t, both.Post)
+choose-uses t = (at-reads.Asked, at-reads.Learnt, meet-reads.Asked, meet-reads.Learnt, for-those-reads.Asked, for-those-reads.Learnt, take-away-reads.Asked, take-away-reads.Learnt, both-below t, both.Post)
 
 abbrev pub decide-uses : ℕ → decide-lts.Claims
 decide-uses t = (ask-for-reads.Asked, ask-for-reads.Learnt, take-away-reads.Asked, take-away-reads.Learnt, for-those-reads.Asked, for-those-reads.Learnt, both-below t, both.Post)

@@ -1,8 +1,8 @@
 -- `names_node` meets its contract: the code is the definition.
 use mathlib.Core.Path.{refl}
 use Rattle.image.specs.Layout.{names-node}
-use Rattle.image.proofs.fits.names_node.Statement.{statement}
-use Rattle.image.proofs.fits.names_node.Tie as tie
+use Rattle.image.proofs.kinds.names_node.Statement.{statement}
+use Rattle.image.proofs.kinds.names_node.Tie as tie
 
 returns : tie.Need-returns
 unfolding names-node

@@ -1,10 +1,10 @@
--- `layout` meets its contract: the table of src/fits.rt is that of specs/Layout.antt.
+-- `layout` meets its contract: the table of src/kinds.rt is that of specs/Layout.antt.
 use mathlib.Core.Path.{refl, sym}
 use lib.ListN.{List·getD-eq-default}
 use borrow.Author.Needs.{needs}
 use Rattle.image.specs.Layout.{kinds, layout}
-use Rattle.image.proofs.fits.layout.Statement.{statement}
-use Rattle.image.proofs.fits.layout.Tie as tie
+use Rattle.image.proofs.kinds.layout.Statement.{statement}
+use Rattle.image.proofs.kinds.layout.Tie as tie
 
 mul-result : tie.Need-mul-result
 mul-result c = search needs
