@@ -1,5 +1,7 @@
--- Condition 3, of the calls: what a shared run answers and leaves beside what configuring and plain runs do, each known by its promise alone.
-use mathlib.Core.Path.{_≡_, sym, _∙_, ap}
+-- Condition 3: "For each setting in the set, the shared run leaves the same numbers, outcome, code and steps as the plain run of the routine configured for it;
+-- outside the set nothing changes and the outcome is idle; visits are at least the largest step count and at most their sum." Of the calls, for every input and
+-- whatever keeps the call's promise.
+use mathlib.Core.Path.{_≡_}
 use mathlib.Core.Bool.{true, false}
 use mathlib.Core.List.{List}
 use Prim.Native.Nat.{ℕ, _≤_, _<_}
@@ -7,26 +9,22 @@ use lib.Dec.{eqb}
 use lib.IntN.{ℤ, pos}
 use lib.ListN.{length, getD, take}
 use Rattle.sets.specs.Member.{bit, has}
-use Rattle.imp.specs.State.{State, outcome-number, code, untouched}
 use Rattle.imp.specs.Shared.{total}
 use Rattle.image.specs.Bytes.{Bytes}
 use Rattle.image.specs.Sets.{settings}
-use Rattle.image.specs.Accepted.{Accepted}
 use Rattle.configure.specs.declared.Configured.{Configured}
 use Rattle.configure.specs.declared.Configured.the-variants.{Length}
 use Rattle.configure.specs.Configured.{configure-rows, Configures}
 use Rattle.plain.specs.declared.progress.Progress.{Progress}
 use Rattle.plain.specs.declared.PlainRun.{PlainRun}
 use Rattle.plain.specs.declared.PlainRun.the-variants as Plain
-use Rattle.plain.specs.PlainRun.{progress-of, plain-rows, Runs}
+use Rattle.plain.specs.PlainRun.{plain-rows, Runs}
 use Rattle.shared.specs.declared.Ends.{Ends}
 use Rattle.shared.specs.declared.SharedRun.the-variants.{Ended}
 use Rattle.shared.specs.Lent.{Tally, progress, part}
 use Rattle.shared.specs.SharedRun.{shared-rows, SharedRuns}
-use Rattle.acceptance.specs.Theorem.Shared as Run
+use Rattle.acceptance.specs.Theorem.Agree.{carried-out, in-the-set, outside-the-set}
 use Rattle.acceptance.specs.Theorem.Answer.{least, most, in-fault, is-out, no-visit, no-step, no-fault, no-out}
-use Rattle.acceptance.specs.Theorem.Configured.{image-written, is-written}
-use Rattle.acceptance.specs.Theorem.Plain.{plain-ends}
 
 -- a setting that was not run: "idle, 0, 0"
 abbrev pub idle : Progress
@@ -56,25 +54,13 @@ pub record Condition3 (l : Bytes) (set budget : ℕ) (xs xs′ : List ℤ) (T′
 
 pub condition-3 : (l : Bytes) (set budget : ℕ) (xs xs′ : List ℤ) (T T′ : Tally) (e : Ends)
     → SharedRuns (shared-rows l set budget xs T) l set budget xs T xs′ T′ (Ended e) → Condition3 l set budget xs xs′ T′ e
-unfolding progress-of untouched outcome-number code
-condition-3 l set budget xs xs′ T T′ e ran =
-    let accepted : Accepted l = Run.is-accepted ran in
-    record {
-      written = λ s i out out′ r room wrote. is-written l s out out′ accepted (Run.below ran s i) room wrote;
-      inside = λ s i out out′ n wrote ns′ r runs.
-          let below : s < settings l = Run.below ran s i in
-          let end-is = sym (Run.inside-is ran s i) in
-          let ends = plain-ends l accepted s budget (Run.allowed ran) (part xs s) (Run.sixteen ran s below) (image-written l s out out′ wrote) runs in (
-            ends .0 ∙ ap (λ σ. Plain.Ended (progress-of σ)) end-is ∙ ap Plain.Ended (sym (Run.progress-left ran s below)),
-            ends .1 ∙ ap (λ (σ : State). σ .numbers) end-is ∙ sym (Run.numbers-left ran s below),
-          );
-      outside = λ s h i. (
-        Run.progress-left ran s h ∙ ap progress-of (Run.outside-is ran s h i),
-        Run.numbers-left ran s h ∙ ap (λ (σ : State). σ .numbers) (Run.outside-is ran s h i),
-      );
-      least = least ran;
-      most = most ran;
-      empty = λ z. (no-visit ran z, no-step ran z, no-fault ran z, no-out ran z);
-      in-fault = in-fault ran;
-      is-out = is-out ran;
-    }
+condition-3 l set budget xs xs′ T T′ e ran = record {
+  written = carried-out ran;
+  inside = in-the-set ran;
+  outside = outside-the-set ran;
+  least = least ran;
+  most = most ran;
+  empty = λ z. (no-visit ran z, no-step ran z, no-fault ran z, no-out ran z);
+  in-fault = in-fault ran;
+  is-out = is-out ran;
+}

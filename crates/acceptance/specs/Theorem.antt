@@ -6,5 +6,16 @@ pub mod Shared
 pub mod Answer
 pub mod Configured
 pub mod Plain
+pub mod ByTable
+pub mod Orders
+pub mod RefusalLines
+pub mod Places
+pub mod Told
+pub mod ImpEnds
+pub mod Agree
+pub mod PlainRules
+pub mod SharedRules
+pub mod ReadBack
+pub mod One
 pub mod Images
 pub mod Calls

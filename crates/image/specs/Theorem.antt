@@ -26,3 +26,4 @@ pub mod Typed
 pub mod Written
 pub mod Decode
 pub mod RoundTrip
+pub mod One
