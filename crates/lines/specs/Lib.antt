@@ -2,6 +2,7 @@
 pub mod Decimal
 pub mod Words
 pub mod Text
+pub mod Limits
 pub mod Report
 pub mod Inner
 pub mod Theorem

@@ -3,6 +3,7 @@ ghost use Prim.Native.Nat.{_*_, _≤_};
 ghost use lib.ListN.{length};
 ghost use Rattle.image.specs.Sets.{settings};
 ghost use Rattle.shared.specs.Lent.{tally};
+ghost use Rattle.lines.specs.Limits.{enough};
 ghost use Rattle.lines.specs.Text.{run-text, text};
 ghost use Rattle.lines.specs.Inner.Puts.{Puts};
 ghost use Rattle.lines.specs.Report.{Reports};
@@ -26,6 +27,9 @@ use line::put_refusal;
 use sets::Set;
 use shared::SharedRun;
 use shared::shared_run;
+
+// A space that every text fits.
+pub const ENOUGH: usize = 2112;
 
 // The text of a run on what is lent for it.
 fn tell_run(
@@ -82,7 +86,7 @@ fn tell_image(image: &[u8], n: usize, set: u64, budget: u32, out: &mut [u8]) -> 
 
 // "The report program tests 16 first, then as the shared run".
 fn tell(input: &[u8], out: &mut [u8]) -> usize
-    requires { ⌜ 2112 ≤ length (now out) ⌝ }
+    requires { ⌜ enough ≤ length (now out) ⌝ }
     ensures { λ r. ⌜ Puts (text (now (input .entry))) 0 (now (out .entry)) (now (out .exit)) r ⌝ }
 {
     if input.len() < 12 {
@@ -98,11 +102,11 @@ fn tell(input: &[u8], out: &mut [u8]) -> usize
     }
 }
 
-// 64 lines of at most 32 bytes and one of at most 64 are certain to fit.
+// The text through a space of its own, which it is certain to fit.
 pub fn report(input: &[u8], out: &mut [u8]) -> Report
     ensures { λ r. ⌜ Reports (text (now (input .entry))) (now (out .entry)) (now (out .exit)) r ⌝ }
 {
-    let mut text = [0u8; 2112];
+    let mut text = [0u8; ENOUGH];
     let n = tell(input, &mut text);
     hand_over(&text, n, out)
 }

@@ -7,6 +7,7 @@ use lib.ListN.{length}
 use Rattle.image.specs.Bytes.{Bytes}
 use Rattle.image.specs.Sets.{settings}
 use Rattle.shared.specs.Lent.{Tally, progress}
+use Rattle.lines.specs.Limits.{enough}
 use Rattle.lines.specs.Text.{line, zeros, blank}
 
 -- the lines of the first n settings, by what is lent
@@ -26,10 +27,10 @@ pub record Blank (N : ℕ) (xs : List ℤ) (T : Tally) (room : ℕ) : Type 0 whe
   pub few : N ≤ 64
   pub store-is : xs ≡ zeros N
   pub tally-is : T ≡ blank N
-  pub fits : 2112 ≤ room
+  pub fits : enough ≤ room
 
 -- n is the number of settings of the image, and there is room for its text
 pub record Good (l : Bytes) (n room : ℕ) : Type 0 where
   pub few : n ≤ 64
   pub settings-are : n ≡ settings l
-  pub fits : 2112 ≤ room
+  pub fits : enough ≤ room

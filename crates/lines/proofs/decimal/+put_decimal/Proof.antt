@@ -8,7 +8,7 @@ use borrow.Author.Needs.{needs}
 use borrow.Fn.Kinds.{In}
 use borrow.Fn.PlainCycle.{Measures, is, falls, and}
 use Rattle.lines.specs.Decimal.{decimal}
-use Rattle.lines.proofs.Decimals.{first, next, longer}
+use Rattle.lines.specs.Theorem.Decimals.{first, next, longer}
 use Rattle.lines.proofs.Putting.{then, byte, same}
 use Rattle.lines.proofs.decimal.put_decimal.Reads as put-decimal
 use Rattle.lines.proofs.decimal.put_decimal.Kinds as put-decimal-kinds

@@ -9,7 +9,7 @@ use borrow.Author.Needs.{needs}
 use Rattle.imp.specs.Numbers.{low32}
 use Rattle.lines.specs.Decimal.{decimal, signed-decimal}
 use Rattle.lines.proofs.Putting.{then, byte, same}
-use Rattle.lines.proofs.Lengths.{plain, minus}
+use Rattle.lines.proofs.Signs.{plain, minus}
 use Rattle.lines.proofs.decimal.put_signed.Statement.{statement}
 use Rattle.lines.proofs.decimal.put_signed.Tie as tie
 

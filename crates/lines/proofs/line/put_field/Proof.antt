@@ -5,7 +5,7 @@ use native.Mathlib.Omega.{arith}
 use lib.ListN.{length, length-set}
 use Rattle.lines.specs.Words.{field}
 use Rattle.lines.proofs.Putting.{then, byte}
-use Rattle.lines.proofs.Lengths.{field-length}
+use Rattle.lines.specs.Theorem.Lengths.{field-length}
 use Rattle.lines.proofs.line.put_field.Statement.{statement}
 use Rattle.lines.proofs.line.put_field.Tie as tie
 

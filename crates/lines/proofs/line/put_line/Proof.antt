@@ -12,7 +12,7 @@ use Rattle.lines.specs.Decimal.{signed-decimal}
 use Rattle.lines.specs.Words.{space}
 use Rattle.lines.specs.Text.{line}
 use Rattle.lines.proofs.Putting.{then, same}
-use Rattle.lines.proofs.Lengths.{two, ten, eleven, field-length, word-length}
+use Rattle.lines.specs.Theorem.Lengths.{two, ten, eleven, field-length, word-length}
 use Rattle.lines.proofs.line.put_line.Statement.{statement}
 use Rattle.lines.proofs.line.put_line.Tie as tie
 

@@ -13,7 +13,7 @@ use Rattle.lines.specs.Inner.Puts.{Puts}
 use Rattle.lines.specs.Inner.Telling.{tallied}
 use Rattle.lines.specs.Text.{line}
 use Rattle.lines.proofs.Putting.{then, same}
-use Rattle.lines.proofs.Lengths.{line-length}
+use Rattle.lines.specs.Theorem.Lengths.{line-length}
 use Rattle.lines.proofs.line.put_lines.Statement.{statement}
 use Rattle.lines.proofs.line.put_lines.Tie as tie
 

@@ -6,7 +6,7 @@ use borrow.Author.Needs.{needs}
 use Rattle.lines.specs.Words.{refused-word, at-word, field}
 use Rattle.lines.specs.Text.{refusal-line}
 use Rattle.lines.proofs.Putting.{then, same}
-use Rattle.lines.proofs.Lengths.{ten, twenty, field-length}
+use Rattle.lines.specs.Theorem.Lengths.{ten, twenty, field-length}
 use Rattle.lines.proofs.line.put_refusal.Statement.{statement}
 use Rattle.lines.proofs.line.put_refusal.Tie as tie
 
@@ -36,7 +36,7 @@ put-field-requires-2 c κs =
     let first = c .before .before .before .before .before .put-field in
     let p = c .place .result in
     let start : tie.Start = c .before .before .before .before .before .before .before .before .before .before in
-    omega (arith, start .pre, first .ensures .next-is, first .kept .0, field-length refused-word n 32, ten n (omega arith), field-length at-word p 10, twenty p (omega arith))
+    omega (arith, start .pre, first .ensures .next-is, first .kept .0, field-length refused-word n 32, ten n (omega arith), field-length at-word p 10, twenty p)
 
 same-length : tie.Need-same-length
 same-length c = search needs

@@ -1,20 +1,19 @@
 -- How long the parts of a line are at most.
-use mathlib.Core.Path.{_≡_, refl, ap}
+use mathlib.Core.Path.{_≡_, refl}
 use mathlib.Core.Bool.{Bool, true, false, cond}
 use mathlib.Core.List.{List, [], _∷_, _++_}
-use Prim.Native.Nat.{ℕ, suc, _+_, _-_, _^_, _≤_, _<_}
+use Prim.Native.Nat.{ℕ, suc, _+_, _^_, _≤_, _<_}
 use native.Mathlib.Omega.{arith}
 use lib.Dec.{eqb}
 use lib.IntN.{ℤ, pos, negsuc}
 use lib.ListN.{length, length-append}
 use mir.Syntax.{w32}
 use mir.Val.{SFits}
-use Rattle.imp.specs.Numbers.{low32}
 use Rattle.plain.specs.declared.progress.Progress.{Progress}
 use Rattle.lines.specs.Decimal.{decimal, signed-decimal}
 use Rattle.lines.specs.Words.{space, word, field}
 use Rattle.lines.specs.Text.{line}
-use Rattle.lines.proofs.Decimals.{short}
+use Rattle.lines.specs.Theorem.Decimals.{at-most, short}
 
 -- ---- numbers
 
@@ -24,24 +23,14 @@ two n h = short 18 1 n refl (omega arith)
 pub ten : (n : ℕ) → n < 2 ^ 32 → length (decimal n) ≤ 10
 ten n h = short 10 9 n refl (omega arith)
 
-pub twenty : (n : ℕ) → n < 2 ^ 64 → length (decimal n) ≤ 20
-twenty n h = short 0 19 n refl (omega arith)
+pub twenty : (n : ℕ) → length (decimal n) ≤ 20
+unfolding decimal
+twenty n = at-most 20 n
 
 pub eleven : (z : ℤ) → SFits w32 z → length (signed-decimal z) ≤ 11
 unfolding signed-decimal
 eleven (pos n) f = omega (arith, ten n (omega arith))
 eleven (negsuc n) f = omega (arith, ten (suc n) (omega arith))
-
--- the two ways of a signed number, by its bits
-pub plain : (z : ℤ) → SFits w32 z → low32 z < 2147483648 → decimal (low32 z) ≡ signed-decimal z
-unfolding signed-decimal low32
-plain (pos n) f h = ap decimal (omega arith)
-plain (negsuc n) f h = absurd (omega arith)
-
-pub minus : (z : ℤ) → SFits w32 z → 2147483648 ≤ low32 z → 45 ∷ decimal (4294967296 - low32 z) ≡ signed-decimal z
-unfolding signed-decimal low32
-minus (pos n) f h = absurd (omega arith)
-minus (negsuc n) f h = ap (λ k. 45 ∷ decimal k) (omega arith)
 
 -- ---- a field, a word, a line
 

@@ -25,7 +25,7 @@ more (suc j) k n h =
     let small : n < 10 ^ suc (j + k) = omega (arith, pow-le-pow-right {n = 10} (omega arith) {i = suc k} {j = suc (j + k)} (omega arith)) in
     ap (λ i. digits i n) next ∙ one-more (j + k) n small ∙ more j k n h
 
-at-most : (k n : ℕ) → length (digits k n) ≤ k
+pub at-most : (k n : ℕ) → length (digits k n) ≤ k
 unfolding digits
 at-most zero n = omega arith
 at-most (suc k) n = go (ltb n 10) (at-most k (n / 10))
