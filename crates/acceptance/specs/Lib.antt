@@ -7,3 +7,5 @@ pub mod Condition3
 pub mod Unique
 pub mod Table
 pub mod Lengths
+pub mod Comparing
+pub mod Expected

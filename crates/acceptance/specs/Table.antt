@@ -1,4 +1,5 @@
--- "Checked by hand": cases (a) to (j) from the bytes of an image to what comes back of the calls, as one table that the checker computes.
+-- "Checked by hand": cases (a) to (j) from the bytes of an image to what comes back of the calls, and with (o) to (q) every kind of node and condition, as one
+-- table that the checker computes.
 use mathlib.Core.Path.{_≡_, refl, _∙_}
 use mathlib.Core.Option.{some}
 use mathlib.Core.List.{List, [], _∷_, _++_, map}
@@ -17,13 +18,14 @@ use Rattle.imp.specs.Shared as Sharing
 use Rattle.imp.specs.Shared.{valueIn, any, for, visited, where-true, where-false, begun, turns, start, beyond}
 use Rattle.image.specs.declared.accept.Shape.{Shape}
 use Rattle.image.specs.declared.accept.Checked.{Checked}
+use Rattle.image.specs.declared.conditions.ConditionSet.{ConditionSet}
 use Rattle.image.specs.Bytes.{Bytes, number-at, over}
 use Rattle.image.specs.Check.{answer-of, shape-of}
 use Rattle.image.specs.Records.{nodes-from, header, condition-record, node}
 use Rattle.image.specs.Layout.{kinds, layout, names-node, is-choice, condition-kinds, condition-layout, field-fits}
 use Rattle.image.specs.Rows.{Answer, refused, answer, judge, written, short, edition-wrong, counts-wrong, length-wrong, lowest, lowest-from, condition-fits, slot-fits, node-fits, class, slot-classed, classed, slot-names, node-names, names, named-wrong, check-rows}
-use Rattle.image.specs.Sets.{settings}
-use Rattle.image.specs.Tree.{condition-kind, condition-reading, condition, kind-of, reading, read-below, read, routine}
+use Rattle.image.specs.Sets.{settings, in-condition, condition-rows, set-answer}
+use Rattle.image.specs.Tree.{condition-kind, condition-reading, condition-below, condition, kind-of, reading, read-below, read, routine}
 use Rattle.image.specs.Term.{size, name, node-word, words, bytes-of, all-bytes, header-word, term-image}
 use Rattle.image.specs.Encode.{termᵃ, termˢ, plain-image}
 use Rattle.configure.specs.declared.Configured.{Configured}
@@ -38,8 +40,8 @@ use Rattle.shared.specs.Lent.{Tally, tally, part}
 use Rattle.shared.specs.declared.SharedRun.{SharedRun}
 use Rattle.shared.specs.SharedRun as Shared
 use Rattle.shared.specs.SharedRun.{each, numbers-of, tally-of, set-of, ends-of, exact, set-rows, shared-rows, shared-answer, SharedRuns}
-use Rattle.acceptance.specs.Theorem.Images.{G, L, I, J}
-use Rattle.acceptance.specs.Theorem.Calls.{Call, shared-run, plain-run, configure, check, Result, shared, plain, configuring, checking, comes-back, case, Case, Holds, Hold, row-of, shared-kept, plain-kept, configuring-kept, checking-kept}
+use Rattle.acceptance.specs.Theorem.Images.{G, L, I, J, E, S}
+use Rattle.acceptance.specs.Theorem.Calls.{Call, shared-run, plain-run, configure, check, condition-set, Result, shared, plain, configuring, checking, asking, bits-of, comes-back, case, Case, Holds, Hold, row-of, shared-kept, plain-kept, configuring-kept, checking-kept, asking-kept}
 
 -- ---- what is lent, and what is expected
 
@@ -69,6 +71,13 @@ three a b c = pos a ∷ pos b ∷ pos c ∷ []
 -- the outcome (0 idle, 1 done, 2 fault, 3 out), the code, the steps, and variables 0, 1 and 2; the others stay 0
 abbrev end : ℕ → ℤ → ℕ → List ℤ → End
 end o c n vs = record { progress = record { outcome = o; code = c; steps = n }; numbers = vs ++ replicate 13 (pos 0) }
+
+-- done, and out, after n steps with variables 0, 1 and 2 as they say
+abbrev ends-done : ℕ → ℕ → ℕ → ℕ → End
+ends-done n x y z = end 1 (pos 0) n (three x y z)
+
+abbrev ends-out : ℕ → ℕ → ℕ → ℕ → End
+ends-out n x y z = end 3 (pos 0) n (three x y z)
 
 abbrev alone : End → Result
 alone e = plain (answer (e .progress)) (e .numbers)
@@ -120,6 +129,32 @@ table =
     -- (j)
     ∷ case (shared-of 1 J 1 100) (together 1 1 0 (end 2 (pos 0) 1 (three 0 0 0) ∷ []))
     ∷ case (plain-of (configured J 0) 100) (alone (end 2 (pos 0) 1 (three 0 0 0)))
+    -- (o): one assignment for all; 3 + 20, -4 + 20, 3 + 10 and 5 + 20
+    ∷ case (shared-of 4 E 15 100) (together 1 0 0 (ends-done 1 23 0 0 ∷ ends-done 1 16 0 0 ∷ ends-done 1 13 0 0 ∷ ends-done 1 25 0 0 ∷ []))
+    ∷ case (plain-of (configured E 0) 100) (alone (ends-done 1 23 0 0))
+    ∷ case (plain-of (configured E 1) 100) (alone (ends-done 1 16 0 0))
+    ∷ case (plain-of (configured E 2) 100) (alone (ends-done 1 13 0 0))
+    ∷ case (plain-of (configured E 3) 100) (alone (ends-done 1 25 0 0))
+    -- (p): try, sequence, while, assign, while are begun for all; assign, while for 2 and 3; throw for 1 and 3; if for 0 and 2; skip for 0; throw for 2; in the
+    -- handler throw for 3, assign for 1 and 2: 13 visits
+    ∷ case (shared-of 4 S 15 100) (together 13 8 0 (ends-done 7 1 0 0 ∷ ends-done 7 1 1 1 ∷ ends-done 10 2 8 8 ∷ end 2 (pos 2) 9 (three 2 2 0) ∷ []))
+    ∷ case (plain-of (configured S 0) 100) (alone (ends-done 7 1 0 0))
+    ∷ case (plain-of (configured S 1) 100) (alone (ends-done 7 1 1 1))
+    ∷ case (plain-of (configured S 2) 100) (alone (ends-done 10 2 8 8))
+    ∷ case (plain-of (configured S 3) 100) (alone (end 2 (pos 2) 9 (three 2 2 0)))
+    -- (p), budget 6: 2 and 3 are out in the while, 0 before skip, and 1 in the handler, with the fault in variable 1; throw and if are two more visits
+    ∷ case (shared-of 4 S 15 6) (together 8 0 15 (ends-out 6 1 0 0 ∷ ends-out 6 1 1 0 ∷ ends-out 6 2 0 0 ∷ ends-out 6 2 0 0 ∷ []))
+    ∷ case (plain-of (configured S 1) 6) (alone (ends-out 6 1 1 0))
+    ∷ case (plain-of (configured S 3) 6) (alone (ends-out 6 2 0 0))
+    -- (q): the sets of (o)'s conditions, setting s with weight 2^s, and a condition that is not there
+    ∷ case (condition-set E 0) (asking (answer 10))
+    ∷ case (condition-set E 1) (asking (answer 12))
+    ∷ case (condition-set E 2) (asking (answer 8))
+    ∷ case (condition-set E 3) (asking (answer 14))
+    ∷ case (condition-set E 4) (asking (answer 5))
+    ∷ case (condition-set E 5) (asking (answer 0))
+    ∷ case (condition-set E 6) (asking (answer 15))
+    ∷ case (condition-set E 7) (asking (refused 15 0))
     ∷ []
 
 -- opens all that a call computes with
@@ -128,9 +163,9 @@ unfolding digit bit on-in holds Imp.configure configureᵃ low32 signed32 wrap o
     value Plainly.begun Plainly.turns handled run Plainly.plain-run valueIn any for visited where-true where-false begun turns Sharing.shared start Sharing.shared-run beyond
     number-at nodes-from header condition-record node kinds layout names-node is-choice condition-kinds condition-layout field-fits
     judge written short edition-wrong counts-wrong length-wrong lowest lowest-from condition-fits slot-fits node-fits class slot-classed classed slot-names node-names names named-wrong check-rows
-    settings condition-kind condition-reading condition kind-of reading read-below read routine size name node-word words bytes-of all-bytes header-word term-image termᵃ termˢ plain-image
+    settings condition-kind condition-reading condition-below condition kind-of reading read-below read routine size name node-word words bytes-of all-bytes header-word term-image termᵃ termˢ plain-image
     configured space-rows configure-rows over Plain.meant progress-of lent-rows plain-rows part Shared.meant each numbers-of tally-of set-of ends-of exact set-rows shared-rows
-    shape-of G L I J comes-back table
+    shape-of in-condition condition-rows G L I J E S comes-back table
 opened = tt
 
 pub checked : Hold table
@@ -171,4 +206,11 @@ module _ (k : ℕ) where
       → getElem? table k ≡ some (case (check l) (checking a)) → answer-of r ≡ judge (check-rows l) (shape-of l) → answer-of r ≡ a
   checking-row l r {a = a} at answered =
       let same : checking (answer-of r) ≡ checking a = checking-kept l r answered ∙ row k _ at in
+      cc
+
+  pub asking-row : (l : Bytes) (n : ℕ) (r : ConditionSet) {a : Answer ℕ}
+      → getElem? table k ≡ some (case (condition-set l n) (asking a)) → set-answer r ≡ judge (condition-rows l n) (in-condition l n)
+      → bits-of (set-answer r) ≡ a
+  asking-row l n r {a = a} at answered =
+      let same : asking (bits-of (set-answer r)) ≡ asking a = asking-kept l n r answered ∙ row k _ at in
       cc

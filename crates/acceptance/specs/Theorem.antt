@@ -19,3 +19,7 @@ pub mod ReadBack
 pub mod One
 pub mod Images
 pub mod Calls
+pub mod Same
+pub mod Compared
+pub mod Holding
+pub mod Answered

@@ -1,7 +1,13 @@
 // Condition 3 of one routine: one shared run over the set, and then every setting by itself.
-ghost use Prim.Native.Nat.{_*_, _≤_};
+ghost use mathlib.Core.Path.{_≡_};
+ghost use Prim.Native.Nat.{_≤_, _<_};
 ghost use lib.ListN.{length};
+ghost use Rattle.image.specs.Rows.{written, check-rows};
+ghost use Rattle.image.specs.Sets.{settings};
+ghost use Rattle.shared.specs.Lent.{tally};
 ghost use Rattle.acceptance.specs.Lengths.{Lengths};
+ghost use Rattle.acceptance.specs.Comparing.{setting-holds, all-hold, compared};
+ghost use Rattle.acceptance.specs.Expected.{expected};
 use crate::alone::agrees;
 use crate::alone::untouched;
 use crate::numbers::fill;
@@ -26,22 +32,11 @@ pub enum Verdict {
 // The settings of an image: 0 where the check refuses it.
 fn settings(image: &[u8]) -> usize
     ensures { λ r. ⌜ r ≤ 64 ⌝ }
+    ensures { λ r. ⌜ r ≡ written (check-rows (now (image .entry))) (settings (now (image .entry))) 0 ⌝ }
 {
     match check(image) {
         Checked::Refused(_) => 0,
         Checked::Good(shape) => 1usize << shape.options,
-    }
-}
-
-// The numbers that n settings start with.
-fn fill_all(n: usize, store: &mut [i32])
-    requires { ⌜ n ≤ 64 ⌝ }
-    requires { ⌜ n * 16 ≤ length (now store) ⌝ }
-{
-    for s in 0..n {
-        let at = s * 16;
-        let end = at + 16;
-        fill(s, &mut store[at..end]);
     }
 }
 
@@ -54,7 +49,10 @@ fn setting_holds(
     s: usize,
     p: Progress,
     left: &[i32],
-) -> bool {
+) -> bool
+    requires { ⌜ s < 64 ⌝ }
+    ensures { λ r. ⌜ r ≡ setting-holds (now (image .entry)) (set .bits) budget visits s p (now (left .entry)) ⌝ }
+{
     if visits < p.steps {
         return false;
     }
@@ -76,6 +74,7 @@ fn all_hold(
     steps: &[u32],
 ) -> bool
     requires { ⌜ Lengths (length (now outcomes)) (length (now store)) (length (now codes)) (length (now steps)) ⌝ }
+    ensures { λ r. ⌜ r ≡ all-hold (now (image .entry)) (set .bits) budget visits (now (store .entry)) (tally (now (outcomes .entry)) (now (codes .entry)) (now (steps .entry))) ⌝ }
 {
     let mut sum: u64 = 0;
     let mut good = true;
@@ -105,9 +104,10 @@ fn compare_lent(
     steps: &mut [u32],
 ) -> Verdict
     requires { ⌜ Lengths (length (now outcomes)) (length (now store)) (length (now codes)) (length (now steps)) ⌝ }
+    ensures { λ r. ⌜ r ≡ compared (length (now (outcomes .entry))) (now (image .entry)) (set .bits) budget (tally (now (outcomes .entry)) (now (codes .entry)) (now (steps .entry))) ⌝ }
 {
     let n = outcomes.len();
-    fill_all(n, store);
+    fill(0, store);
     match shared_run(image, set, budget, store, outcomes, codes, steps) {
         SharedRun::Refused(_) => Verdict::Refused,
         SharedRun::Ended(ends) => {
@@ -122,7 +122,10 @@ fn compare_lent(
     }
 }
 
-pub fn compare(image: &[u8], set: Set, budget: u32) -> Verdict {
+// Condition 3 holds wherever the image, the set and the budget are not refused.
+pub fn compare(image: &[u8], set: Set, budget: u32) -> Verdict
+    ensures { λ r. ⌜ r ≡ expected (now (image .entry)) (set .bits) budget ⌝ }
+{
     let mut store = [0i32; 1024];
     let mut outcomes = [0u8; 64];
     let mut codes = [0i32; 64];

@@ -1,5 +1,6 @@
 -- A call and what comes back of it: its answer and what is left in all that was lent, made of the definitions that its promise cites.
 use mathlib.Core.Path.{_≡_, ap, subst}
+use mathlib.Core.Bool.{Bool}
 use mathlib.Core.Option.{some}
 use mathlib.Core.List.{List, [], _∷_, map}
 use Prim.Native.Nat.{ℕ, zero, suc}
@@ -9,10 +10,11 @@ use lib.ListN.{length, getElem?}
 use Rattle.imp.specs.State.{Numbers}
 use Rattle.image.specs.declared.accept.Shape.{Shape}
 use Rattle.image.specs.declared.accept.Checked.{Checked}
+use Rattle.image.specs.declared.conditions.ConditionSet.{ConditionSet}
 use Rattle.image.specs.Bytes.{Bytes, over}
 use Rattle.image.specs.Check.{answer-of, shape-of}
-use Rattle.image.specs.Rows.{Row, Answer, judge, written, check-rows}
-use Rattle.image.specs.Sets.{settings}
+use Rattle.image.specs.Rows.{Row, Answer, refused, answer, judge, written, check-rows}
+use Rattle.image.specs.Sets.{settings, in-condition, condition-rows, set-answer}
 use Rattle.configure.specs.declared.Configured.{Configured}
 use Rattle.configure.specs.Configured.{configured, configure-rows, configure-answer, Configures}
 use Rattle.plain.specs.declared.progress.Progress.{Progress}
@@ -23,7 +25,7 @@ use Rattle.shared.specs.declared.Ends.{Ends}
 use Rattle.shared.specs.declared.SharedRun.{SharedRun}
 use Rattle.shared.specs.Lent.{Tally}
 use Rattle.shared.specs.SharedRun as Shared
-use Rattle.shared.specs.SharedRun.{numbers-of, tally-of, ends-of, shared-rows, shared-answer, SharedRuns}
+use Rattle.shared.specs.SharedRun.{set-of, numbers-of, tally-of, ends-of, shared-rows, shared-answer, SharedRuns}
 
 -- an image, and what is lent with it
 pub data Call : Type 0 where
@@ -31,6 +33,7 @@ pub data Call : Type 0 where
   plain-run : Bytes → (budget : ℕ) → Numbers → Call
   configure : Bytes → (setting : ℕ) → (out : Bytes) → Call
   check : Bytes → Call
+  condition-set : Bytes → (number : ℕ) → Call
 
 -- the answer, and what is left
 pub data Result : Type 0 where
@@ -38,6 +41,12 @@ pub data Result : Type 0 where
   plain : Answer Progress → Numbers → Result
   configuring : Answer ℕ → Bytes → Result
   checking : Answer Shape → Result
+  asking : Answer ℕ → Result
+
+-- who is in a set, as its 64 bits
+abbrev pub bits-of : Answer (ℕ → Bool) → Answer ℕ
+bits-of (refused n p) = refused n p
+bits-of (answer P) = answer (set-of 64 P)
 
 unfoldable pub comes-back : Call → Result
 comes-back (shared-run l set budget xs T) =
@@ -52,6 +61,7 @@ comes-back (configure l s out) =
     let rows : List Row = configure-rows l s (length out) in
     configuring (judge rows (length (configured l s))) (written rows (over (configured l s) out) out)
 comes-back (check l) = checking (judge (check-rows l) (shape-of l))
+comes-back (condition-set l k) = asking (bits-of (judge (condition-rows l k) (in-condition l k)))
 
 -- ---- cases: a call, and the result that is expected
 
@@ -99,3 +109,8 @@ configuring-kept wrote = λ i. configuring (wrote .answered i) (wrote .out-is i)
 pub checking-kept : (l : Bytes) (r : Checked) → answer-of r ≡ judge (check-rows l) (shape-of l) → checking (answer-of r) ≡ comes-back (check l)
 unfolding comes-back
 checking-kept l r answered = ap checking answered
+
+pub asking-kept : (l : Bytes) (k : ℕ) (r : ConditionSet) → set-answer r ≡ judge (condition-rows l k) (in-condition l k)
+    → asking (bits-of (set-answer r)) ≡ comes-back (condition-set l k)
+unfolding comes-back
+asking-kept l k r answered = ap (λ a. asking (bits-of a)) answered

@@ -58,7 +58,7 @@ module _ (l : Bytes) (s : ℕ) (out out′ : Bytes) where
   -- ---- a setting of the image, and space enough: nothing is refused
 
   module _ (acc : Accepted l) (below : s < settings l) (room : length (configured l s) ≤ length out) where
-    none : NoneFails rows
+    pub none : NoneFails rows
     unfolding configure-rows space-rows
     none = none-both (check-rows l) _ (answered s (check-rows l) s (accepts l s acc)) (
       ap (λ u. not u) (lt-ltb s (settings l) below),

@@ -14,7 +14,7 @@ use Rattle.shared.specs.SharedRun.{each, numbers-of}
 -- ---- a list of N
 
 module _ {A : Type 0} (f : ℕ → A) where
-  each-length : (n : ℕ) → length (each n f) ≡ n
+  pub each-length : (n : ℕ) → length (each n f) ≡ n
   unfolding each
   each-length zero = refl
   each-length (suc n) = omega (arith, length-append (each n f) (f n ∷ []), each-length n)

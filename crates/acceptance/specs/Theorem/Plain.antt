@@ -40,7 +40,7 @@ module _ (l : Bytes) (acc : Accepted l) (s budget : ℕ) (allowed : budget ≤ 1
   abbrev end : State
   end = plain-run budget (configure s (routine l)) ns
 
-  none : NoneFails rows
+  pub none : NoneFails rows
   unfolding plain-rows lent-rows
   none = none-both (check-rows image) _
       (answered budget (check-rows image) budget (accepts image budget (passes l acc s))) (

@@ -1,5 +1,5 @@
--- `agrees` is safe: the image that was written lies within the space.
-use mathlib.Core.Path.{_≡_, sym, _∙_, ap, subst}
+-- `agrees` meets its contract: configuring answers and writes what its promise says, and the image that was written lies within the space.
+use mathlib.Core.Path.{_≡_, refl, sym, _∙_, ap, subst}
 use Prim.Native.Nat.{ℕ}
 use native.Mathlib.Omega.{arith}
 use lib.ListN.{length, take, length-take}
@@ -10,6 +10,7 @@ use Rattle.configure.specs.declared.Configured.the-variants.{Length}
 use Rattle.configure.specs.Configured.{configured, configure-rows, Configures}
 use Rattle.acceptance.specs.Theorem.Rows.{carried}
 use Rattle.acceptance.specs.Theorem.Configured.{image-written}
+use Rattle.acceptance.specs.Theorem.Compared.{write-refused, written-so}
 use Rattle.acceptance.proofs.alone.agrees.Statement.{statement}
 use Rattle.acceptance.proofs.alone.agrees.Tie as tie
 
@@ -45,10 +46,16 @@ runs-so-requires : tie.Need-runs-so-requires
 runs-so-requires c κs = search needs
 
 returns : tie.Need-returns
-returns c = search needs
+returns c =
+    let start : tie.Start = c .before .before .before .before .before .before in
+    let wrote = c .before .before .before .configure in
+    write-refused _ (start .args .p) _ _ refl (wrote .ensures) (c .enum-told .given .1)
 
 returns-2 : tie.Need-returns-2
-returns-2 c = search needs
+returns-2 c =
+    let start : tie.Start = c .before .before .before .before .before .before .before .before .before in
+    let wrote = c .before .before .before .before .before .before .configure in
+    written-so _ (start .args .p) _ _ refl (wrote .ensures) (c .before .before .before .n .given .1) (c .runs-so .ensures)
 
 pub agrees-spec : {M : Type 1} → statement M
 agrees-spec =

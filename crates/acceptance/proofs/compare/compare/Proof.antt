@@ -1,8 +1,10 @@
--- `compare` is safe: what it lends has the lengths for as many settings as there are.
-use mathlib.Core.Path.{sym, _∙_, ap}
+-- `compare` meets its contract: what it lends has the lengths for as many settings as there are, and then condition 3 makes each comparison true.
+use mathlib.Core.Path.{refl, sym, _∙_, ap}
 use Prim.Native.Nat.{_*_}
 use lib.Seq.{length-take-le}
 use borrow.Author.Needs.{needs}
+use Rattle.shared.specs.Lent.{tally}
+use Rattle.acceptance.specs.Theorem.Answered.{always}
 use Rattle.acceptance.proofs.compare.compare.Statement.{statement}
 use Rattle.acceptance.proofs.compare.compare.Tie as tie
 
@@ -41,14 +43,21 @@ compare-lent-requires c κs =
     let n = c .before .before .before .before .settings in
     let outcomes-are = slice-aggregate-compare-lent-2 (c .before .before) in
     record {
-      few = rw (sym outcomes-are) (n .ensures);
+      few = rw (sym outcomes-are) (n .ensures .0);
       store-is = sym (slice-aggregate-compare-lent (c .before .before .before)) ∙ ap (λ k. k * 16) outcomes-are;
       codes-are = sym (slice-aggregate-compare-lent-3 (c .before)) ∙ outcomes-are;
       steps-are = sym (slice-aggregate-compare-lent-4 c) ∙ outcomes-are;
     }
 
 returns : tie.Need-returns
-returns c = search needs
+returns c =
+    let call = c .before .before .before .before .compare-lent in
+    let asked : tie.After-steps = c .before .before .before .before .before in
+    let found : tie.After-settings = asked .before .before .before .before in
+    let lengths = compare-lent-requires asked (call .lifetimes) in
+    let args = found .before .before .args in
+    let outcomes-are = sym (slice-aggregate-compare-lent-2 (asked .before .before)) ∙ found .settings .ensures .1 in
+    call .ensures ∙ always (args .image .now) (args .set .bits) (args .budget) (tally _ _ _) _ outcomes-are refl (lengths .codes-are) (lengths .steps-are)
 
 pub compare-spec : {M : Type 1} → statement M
 compare-spec =

@@ -1,18 +1,25 @@
--- `settings` meets its contract: a good image has six options or fewer, and so 64 settings or fewer.
+-- `settings` meets its contract: a good image has as many settings as its header says, and one that is refused none.
 use mathlib.Core.Path.{_≡_, sym, _∙_, ap}
 use mathlib.Core.List.{List}
-use Prim.Native.Nat.{ℕ, _≤_}
+use Prim.Native.Nat.{ℕ, _^_, _≤_}
 use native.Mathlib.Omega.{arith}
 use lib.Pow.{pow-mono}
 use borrow.Author.Needs.{needs}
 use Rattle.sets.proofs.Laws.{one-shl}
 use Rattle.image.specs.declared.accept.Shape.{Shape}
 use Rattle.image.specs.Records.{header}
-use Rattle.image.specs.Rows.{answer, judge, check-rows}
+use Rattle.image.specs.Bytes.{Bytes}
+use Rattle.image.specs.Rows.{Answer, answer, judge, written, check-rows}
 use Rattle.image.specs.Check.{answer-of, shape-of}
+use Rattle.image.specs.Sets.{settings}
+use Rattle.image.specs.Theorem.Given.{by-answer, written-as-judged}
 use Rattle.image.specs.Theorem.Checked.{good-accepted, good-shape}
 use Rattle.acceptance.proofs.compare.settings.Statement.{statement}
 use Rattle.acceptance.proofs.compare.settings.Tie as tie
+
+-- the settings, by what the check answered
+told-by : (l : Bytes) {a : Answer Shape} → judge (check-rows l) (shape-of l) ≡ a → written (check-rows l) (settings l) 0 ≡ by-answer a (settings l) 0
+told-by l e = written-as-judged (check-rows l) (shape-of l) (settings l) 0 ∙ ap (λ a. by-answer a (settings l) 0) e
 
 module _ (c : tie.After-shape) where
   abbrev l : List ℕ
@@ -47,13 +54,20 @@ shl-result : tie.Need-shl-result
 shl-result c = omega (arith, few (c .before .before))
 
 returns : tie.Need-returns
-returns c = search needs
+returns c =
+    let bytes = c .before .before .before .before .args .image .now in
+    let told = sym (c .before .before .check .ensures) ∙ ap answer-of (c .enum-told .given .1) in
+    (omega arith, sym (told-by bytes told))
 
 returns-2 : tie.Need-returns-2
+unfolding settings
 returns-2 c =
     let good : tie.After-shape = c .before .before in
     let options = good .shape .given .0 .0 .options in
-    omega (arith, one-shl 64 options (omega (arith, few good)), pow-mono (few good))
+    let shifted = one-shl 64 options (omega (arith, few good)) in (
+      omega (arith, shifted, pow-mono (few good)),
+      shifted ∙ ap (λ k. 2 ^ k) (options-are good) ∙ sym (told-by (l good) (sym (told good))),
+    )
 
 pub settings-spec : {M : Type 1} → statement M
 settings-spec =
