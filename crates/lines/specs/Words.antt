@@ -1,21 +1,25 @@
 -- The fixed words of a report, as bytes: byte 32 is the space between fields, and "Each line ends with byte 10."
 use Prim.Native.Nat.{ℕ}
-use mathlib.Core.Bool.{cond}
-use mathlib.Core.List.{[], _∷_, _++_}
-use lib.Dec.{eqb}
+use mathlib.Core.List.{List, [], _∷_, _++_}
+use lib.ListN.{getD}
 use Rattle.image.specs.Bytes.{Bytes}
 use Rattle.lines.specs.Decimal.{decimal}
 
 abbrev pub space : Bytes
 space = 32 ∷ []
 
--- "outcome in words (idle, done, fault, out)", of the outcome's number
+-- idle, done, fault, out
+unfoldable pub outcome-words : List Bytes
+outcome-words =
+    (105 ∷ 100 ∷ 108 ∷ 101 ∷ [])
+    ∷ (100 ∷ 111 ∷ 110 ∷ 101 ∷ [])
+    ∷ (102 ∷ 97 ∷ 117 ∷ 108 ∷ 116 ∷ [])
+    ∷ (111 ∷ 117 ∷ 116 ∷ [])
+    ∷ []
+
+-- "outcome in words (idle, done, fault, out)", of the outcome's number; no other number has a word
 unfoldable pub word : ℕ → Bytes
-word outcome =
-    cond (eqb outcome 0) (105 ∷ 100 ∷ 108 ∷ 101 ∷ [])
-    (cond (eqb outcome 1) (100 ∷ 111 ∷ 110 ∷ 101 ∷ [])
-    (cond (eqb outcome 2) (102 ∷ 97 ∷ 117 ∷ 108 ∷ 116 ∷ [])
-    (111 ∷ 117 ∷ 116 ∷ [])))
+word outcome = getD outcome-words outcome []
 
 -- "visits ", "faults ", "out "; "refused ", "at "
 abbrev pub visits-word : Bytes

@@ -14,6 +14,10 @@ use super::decimal::put_signed;
 use image::refusals::Refusal;
 use image::refusals::number;
 use image::refusals::place;
+use plain::progress::FAULT;
+use plain::progress::IDLE;
+use plain::progress::LIVE;
+use plain::progress::OUT;
 use plain::progress::Progress;
 use shared::Ends;
 
@@ -28,16 +32,17 @@ fn put_field(out: &mut [u8], at: usize, name: &[u8], n: usize, end: u8) -> usize
     last + 1
 }
 
-// "outcome in words (idle, done, fault, out)", between two spaces.
+// "outcome in words (idle, done, fault, out)", between two spaces; no other number has a word.
 fn put_word(out: &mut [u8], at: usize, outcome: u8) -> usize
     requires { ⌜ at + 7 ≤ length (now out) ⌝ }
     ensures { λ r. ⌜ Puts (space ++ (word outcome ++ space)) at (now (out .entry)) (now (out .exit)) r ⌝ }
 {
     match outcome {
-        0 => put(out, at, b" idle "),
-        1 => put(out, at, b" done "),
-        2 => put(out, at, b" fault "),
-        _ => put(out, at, b" out "),
+        IDLE => put(out, at, b" idle "),
+        LIVE => put(out, at, b" done "),
+        FAULT => put(out, at, b" fault "),
+        OUT => put(out, at, b" out "),
+        _ => put(out, at, b"  "),
     }
 }
 

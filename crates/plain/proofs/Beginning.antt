@@ -20,14 +20,16 @@ unfolding live outcome-from
 live-is zero c = refl
 live-is (suc zero) c = refl
 live-is (suc (suc zero)) c = refl
-live-is (suc (suc (suc n))) c = sym (ne-eqb (suc (suc (suc n))) 1 (λ e. omega arith))
+live-is (suc (suc (suc zero))) c = refl
+live-is (suc (suc (suc (suc n)))) c = sym (ne-eqb (suc (suc (suc (suc n)))) 1 (λ e. omega arith))
 
 pub fault-is : (o : ℕ) (c : ℤ) → in-fault (outcome-from o c) ≡ eqb o 2
 unfolding in-fault outcome-from
 fault-is zero c = refl
 fault-is (suc zero) c = refl
 fault-is (suc (suc zero)) c = refl
-fault-is (suc (suc (suc n))) c = sym (ne-eqb (suc (suc (suc n))) 2 (λ e. omega arith))
+fault-is (suc (suc (suc zero))) c = refl
+fault-is (suc (suc (suc (suc n)))) c = sym (ne-eqb (suc (suc (suc (suc n)))) 2 (λ e. omega arith))
 
 -- done, in fault and out are proper
 pub proper-done : Proper 1 (pos 0)

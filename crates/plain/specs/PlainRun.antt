@@ -25,9 +25,13 @@ meant l budget ns = plain-run budget (configure 0 (routine l)) ns
 unfoldable pub progress-of : State → Progress
 progress-of σ = record { outcome = outcome-number (σ .outcome); code = code (σ .outcome); steps = σ .steps }
 
--- 10: "budget over 100,000"; 12: "store (.. in a plain run 16) .. not of exact length"
+-- 10: "budget over 100,000"
+abbrev pub budget-row : ℕ → Row
+budget-row budget = row 10 (ltb 100000 budget)
+
+-- 12: "store (.. in a plain run 16) .. not of exact length"
 unfoldable pub lent-rows : ℕ → ℕ → List Row
-lent-rows budget space = row 10 (ltb 100000 budget) ∷ row 12 (not (eqb space 16)) ∷ []
+lent-rows budget space = budget-row budget ∷ row 12 (not (eqb space 16)) ∷ []
 
 -- 13: "plain run of an image that holds a choice", at the "lowest choice"
 unfoldable pub plain-rows : Bytes → ℕ → ℕ → List Row

@@ -19,6 +19,7 @@ use image::accept::Shape;
 use image::accept::check;
 use image::conditions::condition_sets;
 use image::refusals::Refusal;
+use progress::LARGEST_BUDGET;
 use progress::LIVE;
 use progress::Progress;
 use run::run;
@@ -38,7 +39,7 @@ fn run_accepted(image: &[u8], shape: Shape, budget: u32, numbers: &mut [i32]) ->
     requires { ⌜ Accepted (now image) × (shape ≡ shape-of (now image)) ⌝ }
     ensures { λ r. ⌜ Runs (lent-rows budget (length (now (numbers .entry)))) (now (image .entry)) budget (now (numbers .entry)) (now (numbers .exit)) r ⌝ }
 {
-    if 100_000 < budget {
+    if LARGEST_BUDGET < budget {
         return PlainRun::Refused(Refusal::BudgetOver);
     }
     if numbers.len() != 16 {

@@ -9,6 +9,9 @@ pub const FAULT: u8 = 2;
 
 pub const OUT: u8 = 3;
 
+// "budget over 100,000"
+pub const LARGEST_BUDGET: u32 = 100_000;
+
 pub struct Progress {
     pub outcome: u8,
     pub code: i32,

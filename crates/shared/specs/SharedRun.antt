@@ -3,7 +3,7 @@ use mathlib.Core.Path.{_≡_}
 use Prim.Native.Nat.{ℕ, zero, suc, _+_, _*_, _^_}
 use mathlib.Core.Bool.{Bool, not, _&&_, cond}
 use mathlib.Core.List.{List, [], _∷_, _++_}
-use lib.Dec.{eqb, ltb}
+use lib.Dec.{eqb}
 use lib.IntN.{ℤ}
 use lib.ListN.{length}
 use Rattle.sets.specs.Member.{bit}
@@ -14,6 +14,7 @@ use Rattle.image.specs.Refusals.{number-of, place-of}
 use Rattle.image.specs.Rows.{Row, row, Answer, refused, answer, judge, written, check-rows}
 use Rattle.image.specs.Sets.{settings}
 use Rattle.image.specs.Tree.{routine}
+use Rattle.plain.specs.PlainRun.{budget-row}
 use Rattle.shared.specs.declared.Ends.{Ends}
 use Rattle.shared.specs.declared.SharedRun.{SharedRun}
 use Rattle.shared.specs.declared.SharedRun.the-variants.{Ended, Refused}
@@ -55,9 +56,9 @@ ends-of n Σ = record {
 unfoldable pub exact : ℕ → List ℤ → Tally → Bool
 exact n xs T = eqb (length xs) (n * 16) && (eqb (length (T .outcomes)) n && (eqb (length (T .codes)) n && eqb (length (T .steps)) n))
 
--- 9: "set has a setting at or above N"; 10: "budget over 100,000"; 12: "store .. outcomes, codes or steps .. not of exact length"
+-- 9: "set has a setting at or above N"; then 10; 12: "store .. outcomes, codes or steps .. not of exact length"
 unfoldable pub set-rows : Bytes → ℕ → ℕ → List ℤ → Tally → List Row
-set-rows l set budget xs T = row 9 (beyond (settings l) set) ∷ row 10 (ltb 100000 budget) ∷ row 12 (not (exact (settings l) xs T)) ∷ []
+set-rows l set budget xs T = row 9 (beyond (settings l) set) ∷ budget-row budget ∷ row 12 (not (exact (settings l) xs T)) ∷ []
 
 -- "shared run 9, 10, 12", after tests 1 to 8
 unfoldable pub shared-rows : Bytes → ℕ → ℕ → List ℤ → Tally → List Row

@@ -30,6 +30,7 @@ use image::conditions::all_settings;
 use image::conditions::condition_sets;
 use image::refusals::Refusal;
 use plain::progress::FAULT;
+use plain::progress::LARGEST_BUDGET;
 use plain::progress::OUT;
 use plan::Plan;
 use run::run;
@@ -125,7 +126,7 @@ fn run_accepted(
     if !beyond.is_empty() {
         return SharedRun::Refused(Refusal::SetBeyond);
     }
-    if 100_000 < budget {
+    if LARGEST_BUDGET < budget {
         return SharedRun::Refused(Refusal::BudgetOver);
     }
     let n = 1usize << shape.options;

@@ -1,17 +1,15 @@
 -- How long the parts of a line are at most.
 use mathlib.Core.Path.{_≡_, refl}
-use mathlib.Core.Bool.{Bool, true, false, cond}
 use mathlib.Core.List.{List, [], _∷_, _++_}
-use Prim.Native.Nat.{ℕ, suc, _+_, _^_, _≤_, _<_}
+use Prim.Native.Nat.{ℕ, zero, suc, _+_, _^_, _≤_, _<_}
 use native.Mathlib.Omega.{arith}
-use lib.Dec.{eqb}
 use lib.IntN.{ℤ, pos, negsuc}
 use lib.ListN.{length, length-append}
 use mir.Syntax.{w32}
 use mir.Val.{SFits}
 use Rattle.plain.specs.declared.progress.Progress.{Progress}
 use Rattle.lines.specs.Decimal.{decimal, signed-decimal}
-use Rattle.lines.specs.Words.{space, word, field}
+use Rattle.lines.specs.Words.{space, outcome-words, word, field}
 use Rattle.lines.specs.Text.{line}
 use Rattle.lines.specs.Theorem.Decimals.{at-most, short}
 
@@ -39,14 +37,12 @@ unfolding field
 field-length name n end = omega (arith, length-append name (decimal n ++ (end ∷ [])), length-append (decimal n) (end ∷ []))
 
 pub word-length : (outcome : ℕ) → length (space ++ (word outcome ++ space)) ≤ 7
-unfolding word
-word-length outcome = go (eqb outcome 0) (eqb outcome 1) (eqb outcome 2)
-  where
-    go : (a b c : Bool) → length (space ++ (cond a (105 ∷ 100 ∷ 108 ∷ 101 ∷ []) (cond b (100 ∷ 111 ∷ 110 ∷ 101 ∷ []) (cond c (102 ∷ 97 ∷ 117 ∷ 108 ∷ 116 ∷ []) (111 ∷ 117 ∷ 116 ∷ []))) ++ space)) ≤ 7
-    go true b c = omega arith
-    go false true c = omega arith
-    go false false true = omega arith
-    go false false false = omega arith
+unfolding word outcome-words
+word-length zero = omega arith
+word-length (suc zero) = omega arith
+word-length (suc (suc zero)) = omega arith
+word-length (suc (suc (suc zero))) = omega arith
+word-length (suc (suc (suc (suc n)))) = omega arith
 
 pub line-length : (s : ℕ) (p : Progress) → s < 64 → SFits w32 (p .code) → p .steps < 2 ^ 32 → length (line s p) ≤ 32
 unfolding line

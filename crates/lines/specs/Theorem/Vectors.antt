@@ -18,7 +18,7 @@ use Rattle.plain.specs.PlainRun.{progress-of}
 use Rattle.shared.specs.Lent.{part}
 use Rattle.shared.specs.SharedRun.{meant, set-of, ends-of, exact, set-rows, shared-rows}
 use Rattle.lines.specs.Decimal.{digits, decimal, signed-decimal}
-use Rattle.lines.specs.Words.{word, field}
+use Rattle.lines.specs.Words.{outcome-words, word, field}
 use Rattle.lines.specs.Text.{line, lines, last-line, refusal-line, zeros, blank, run-of, run-rows, report-rows, told, text}
 
 -- header, condition 0, then nodes 0 to 11
@@ -46,7 +46,7 @@ input set budget l = 0 ∷ 0 ∷ 0 ∷ 0 ∷ 0 ∷ 0 ∷ 0 ∷ set ∷ 0 ∷ 0 �
 
 -- opens all that a text computes with
 opened : Unit {0}
-unfolding text told report-rows run-rows run-of lines line last-line zeros blank decimal digits signed-decimal word field refusal-line judge check-rows short
+unfolding text told report-rows run-rows run-of lines line last-line zeros blank decimal digits signed-decimal outcome-words word field refusal-line judge check-rows short
     edition-wrong counts-wrong length-wrong lowest lowest-from condition-fits condition-layout field-fits slot-fits node-fits class slot-classed classed
     slot-names node-names names named-wrong layout kinds names-node node number-at nodes-from header condition-record condition-kinds settings routine read
     reading kind-of read-below condition signed32 condition-reading condition-kind bit digit members holds on-in outcome-number code live store thrown ready

@@ -1,16 +1,15 @@
 -- How far a setting is, in numbers: its outcome, its code and its steps, and the state that they stand for together with its sixteen numbers.
 use mathlib.Core.Path.{_≡_}
-use Prim.Native.Nat.{ℕ, zero, suc}
+use Prim.Native.Nat.{ℕ}
+use mathlib.Core.List.{[], _∷_}
 use lib.IntN.{ℤ}
+use lib.ListN.{getD}
 use Rattle.imp.specs.State.{Numbers, Outcome, idle, done, fault, out, outcome-number, code, State}
 use Rattle.plain.specs.declared.progress.Progress.{Progress}
 
--- "Outcomes: 0 idle, 1 done, 2 fault, 3 out. A code is the fault's number for fault, else 0."
+-- "Outcomes: 0 idle, 1 done, 2 fault, 3 out. A code is the fault's number for fault, else 0." Any other number is read as idle, and is not `Proper`
 unfoldable pub outcome-from : ℕ → ℤ → Outcome
-outcome-from zero c = idle
-outcome-from (suc zero) c = done
-outcome-from (suc (suc zero)) c = fault c
-outcome-from (suc (suc (suc n))) c = out
+outcome-from n c = getD (idle ∷ done ∷ fault c ∷ out ∷ []) n idle
 
 unfoldable pub state-of : Progress → Numbers → State
 state-of p ns = record { numbers = ns; outcome = outcome-from (p .outcome) (p .code); steps = p .steps }
