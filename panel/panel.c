@@ -1,21 +1,10 @@
 /* Panel software calls the sets of settings from C. On x86-64, from the repository's folder:
      rt staticlib sets
-     gcc -Wall -Wextra -o target/panel panel/panel.c target/staticlib/libsets.a && target/panel
+     gcc -std=c11 -Iinclude -Wall -Wextra -o target/panel panel/panel.c target/staticlib/libsets.a && target/panel
    (.ci/c-run sets panel/panel.c does this, and on Arm cross-compiles and emulates.) It prints `panel: ok` and ends with status 0, or prints each check
    that failed and ends with status 1. */
-#include <stdbool.h>
-#include <stdint.h>
+#include "sets.h"
 #include <stdio.h>
-
-/* crates/sets/src/panel.rt says what each gives */
-uint64_t sets_meet(uint64_t a, uint64_t b);
-uint64_t sets_join(uint64_t a, uint64_t b);
-uint64_t sets_take_away(uint64_t a, uint64_t b);
-bool sets_has(uint64_t a, uint64_t s);
-uint32_t sets_count(uint64_t a);
-uint64_t sets_full(uint32_t f);
-uint32_t sets_full_refusal(uint32_t f);
-uint64_t sets_option(uint64_t full, uint32_t k);
 
 static int failed = 0;
 

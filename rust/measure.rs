@@ -6,23 +6,23 @@ mod paper;
 
 use std::time::Instant;
 
+// rust/measure.c has them: a shared run gives its visits, a plain run its steps
 extern "C" {
-    fn bench_shared_run(
+    fn shared_run(
         image: *const u8,
         length: usize,
         set: u64,
         budget: u32,
         store: *mut i32,
-        numbers: usize,
-        outcomes: *mut u8,
-        n: usize,
-        codes: *mut i32,
-        n_codes: usize,
         steps: *mut u32,
-        n_steps: usize,
-        answer: *mut usize,
-        five: usize,
-    );
+    ) -> usize;
+    fn plain_run(
+        image: *const u8,
+        length: usize,
+        setting: u64,
+        budget: u32,
+        numbers: *mut i32,
+    ) -> usize;
 }
 
 /// An image with six options: its conditions and nodes as words.
@@ -92,42 +92,41 @@ fn routine(k: u64, additions: u64) -> Vec<u8> {
 
 struct All {
     store: Vec<i32>,
-    outcomes: Vec<u8>,
-    codes: Vec<i32>,
     steps: Vec<u32>,
     visits: usize,
 }
 
 fn shared(image: &[u8], set: u64, budget: u32) -> All {
-    let mut all = All {
-        store: vec![0; 1024],
-        outcomes: vec![0; 64],
-        codes: vec![0; 64],
-        steps: vec![0; 64],
-        visits: 0,
-    };
-    let mut answer = [0usize; 5];
-    unsafe {
-        bench_shared_run(
-            image.as_ptr(),
-            image.len(),
+    let (mut store, mut steps) = (vec![0; 1024], vec![0; 64]);
+    let (at, length) = (image.as_ptr(), image.len());
+    let visits = unsafe {
+        shared_run(
+            at,
+            length,
             set,
             budget,
-            all.store.as_mut_ptr(),
-            1024,
-            all.outcomes.as_mut_ptr(),
-            64,
-            all.codes.as_mut_ptr(),
-            64,
-            all.steps.as_mut_ptr(),
-            64,
-            answer.as_mut_ptr(),
-            5,
-        );
+            store.as_mut_ptr(),
+            steps.as_mut_ptr(),
+        )
+    };
+    assert_ne!(visits, usize::MAX, "refused");
+    All {
+        store,
+        steps,
+        visits,
     }
-    assert_eq!(answer[0], 0);
-    all.visits = answer[2];
-    all
+}
+
+/// Every setting by itself, by the bench's own plain run.
+fn by_the_bench(image: &[u8], budget: u32) -> (Vec<i32>, Vec<u32>) {
+    let (mut store, mut steps) = (vec![0; 1024], vec![0; 64]);
+    let (at, length) = (image.as_ptr(), image.len());
+    for (s, numbers) in store.chunks_mut(16).enumerate() {
+        let ended = unsafe { plain_run(at, length, s as u64, budget, numbers.as_mut_ptr()) };
+        assert_ne!(ended, usize::MAX, "refused");
+        steps[s] = ended as u32;
+    }
+    (store, steps)
 }
 
 /// Every setting by itself, as a plain program would: configured, read and run.
@@ -159,24 +158,28 @@ fn seconds(image: &[u8], set: u64, budget: u32) -> (f64, usize) {
 #[no_mangle]
 pub extern "C" fn measure() {
     let (mut ours, mut theirs) = (0.0, 0.0);
-    println!("| routine | P | shared run, s | 64 plain runs, s | ratio |\n|---|---|---|---|---|");
+    println!("| routine | P | shared run, s | 64 plain runs, s | ratio | the bench's plain runs, s |\n|---|---|---|---|---|---|");
     for k in 0..10 {
         let image = routine(k, k);
         let (a, all) = timed(|| shared(&image, u64::MAX, 100_000));
         let (b, (store, steps)) = timed(|| one_by_one(&image, 100_000));
+        let (c, (own_store, own_steps)) = timed(|| by_the_bench(&image, 100_000));
         assert!(
-            all.store == store && all.steps == steps,
+            all.store == store && all.steps == steps && store == own_store && steps == own_steps,
             "routine {k} differs"
         );
         println!(
-            "| {k} | {} | {a:.2} | {b:.2} | {:.2} |",
+            "| {k} | {} | {a:.2} | {b:.2} | {:.2} | {c:.2} |",
             (image.len() - 16) / 8,
             a / b
         );
         ours += a;
         theirs += b;
     }
-    println!("| all | | {ours:.2} | {theirs:.2} | {:.2} |", ours / theirs);
+    println!(
+        "| all | | {ours:.2} | {theirs:.2} | {:.2} | |",
+        ours / theirs
+    );
     let image = routine(0, 0);
     println!("\n| budget | shared run, s | visits a second |\n|---|---|---|");
     for budget in [12_500, 25_000, 50_000, 100_000] {

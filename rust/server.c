@@ -1,28 +1,13 @@
 /* Calls the bench for a program that cannot link it. Reads batches of requests and writes a batch of replies for each; every
    number is little-endian. A batch is its length in bytes (4) and that many bytes of requests. A request is the function's
    number (1), a guard byte (1), two numbers x and y (8 each) and the function's slices, each its length in bytes (4) and its
-   bytes. The reply has each slice again after the call, with the guard bytes that stood before and after it. */
-#include <stdbool.h>
-#include <stdint.h>
+   bytes. The reply has what the call returned (1, and 1 for a call of the sets) and each slice again after the call, with the
+   guard bytes that stood before and after it. */
+#include "bench.h"
+#include "sets.h"
 #include <stdio.h>
 #include <stdlib.h>
 #include <string.h>
-
-void bench_check(const uint8_t *, size_t, size_t *, size_t);
-void bench_condition_has(const uint8_t *, size_t, size_t, uint64_t, size_t *, size_t);
-void bench_configure(const uint8_t *, size_t, uint64_t, uint8_t *, size_t, size_t *, size_t);
-void bench_plain_run(const uint8_t *, size_t, uint32_t, int32_t *, size_t, size_t *, size_t);
-void bench_shared_run(const uint8_t *, size_t, uint64_t, uint32_t, int32_t *, size_t, uint8_t *, size_t, int32_t *, size_t,
-                      uint32_t *, size_t, size_t *, size_t);
-void bench_report(const uint8_t *, size_t, uint8_t *, size_t, size_t *, size_t);
-uint64_t sets_meet(uint64_t, uint64_t);
-uint64_t sets_join(uint64_t, uint64_t);
-uint64_t sets_take_away(uint64_t, uint64_t);
-bool sets_has(uint64_t, uint64_t);
-uint32_t sets_count(uint64_t);
-uint64_t sets_full(uint32_t);
-uint32_t sets_full_refusal(uint32_t);
-uint64_t sets_option(uint64_t, uint32_t);
 
 enum { GUARD = 16, MOST_SLICES = 6, FUNCTIONS = 14 };
 
@@ -43,27 +28,26 @@ static void take(void *to, const uint8_t **from, size_t size)
     *from += size;
 }
 
-static void call(int function, uint64_t x, uint64_t y, void *const *at, const size_t *size)
+static bool call(int function, uint64_t x, uint64_t y, void *const *at, const size_t *size)
 {
     uint64_t *result = at[0];
     switch (function) {
-    case 0: bench_check(at[0], size[0], at[1], size[1] / 8); break;
-    case 1: bench_condition_has(at[0], size[0], x, y, at[1], size[1] / 8); break;
-    case 2: bench_configure(at[0], size[0], x, at[1], size[1], at[2], size[2] / 8); break;
-    case 3: bench_plain_run(at[0], size[0], x, at[1], size[1] / 4, at[2], size[2] / 8); break;
+    case 0: return bench_check(at[0], size[0], at[1], size[1] / 8);
+    case 1: return bench_condition_has(at[0], size[0], x, y, at[1], size[1] / 8);
+    case 2: return bench_configure(at[0], size[0], x, at[1], size[1], at[2], size[2] / 8);
+    case 3: return bench_plain_run(at[0], size[0], x, at[1], size[1] / 4, at[2], size[2] / 8);
     case 4:
-        bench_shared_run(at[0], size[0], x, y, at[1], size[1] / 4, at[2], size[2], at[3], size[3] / 4, at[4], size[4] / 4,
-                         at[5], size[5] / 8);
-        break;
-    case 5: *result = sets_meet(x, y); break;
-    case 6: *result = sets_join(x, y); break;
-    case 7: *result = sets_take_away(x, y); break;
-    case 8: *result = sets_has(x, y); break;
-    case 9: *result = sets_count(x); break;
-    case 10: *result = sets_full(x); break;
-    case 11: *result = sets_full_refusal(x); break;
-    case 12: *result = sets_option(x, y); break;
-    case 13: bench_report(at[0], size[0], at[1], size[1], at[2], size[2] / 8); break;
+        return bench_shared_run(at[0], size[0], x, y, at[1], size[1] / 4, at[2], size[2], at[3], size[3] / 4, at[4],
+                                size[4] / 4, at[5], size[5] / 8);
+    case 5: *result = sets_meet(x, y); return true;
+    case 6: *result = sets_join(x, y); return true;
+    case 7: *result = sets_take_away(x, y); return true;
+    case 8: *result = sets_has(x, y); return true;
+    case 9: *result = sets_count(x); return true;
+    case 10: *result = sets_full(x); return true;
+    case 11: *result = sets_full_refusal(x); return true;
+    case 12: *result = sets_option(x, y); return true;
+    default: return bench_report(at[0], size[0], at[1], size[1], at[2], size[2] / 8);
     }
 }
 
@@ -91,7 +75,7 @@ static uint8_t *answer(const uint8_t **from, uint8_t *to)
         at[i] = room[i] + GUARD;
         take(at[i], from, length);
     }
-    call(function, x, y, at, size);
+    *to++ = call(function, x, y, at, size);
     for (int i = 0; i < slices; i++) {
         memcpy(to, room[i], size[i] + 2 * GUARD);
         to += size[i] + 2 * GUARD;
@@ -107,7 +91,7 @@ int main(void)
         uint8_t *requests = some(length);
         if (fread(requests, 1, length, stdin) != length)
             return 2;
-        /* a slice of 4 + n bytes in a request has 32 + n in the reply, so eight times the room is enough */
+        /* a slice of 4 + n bytes in a request has 32 + n in the reply, and a request's 18 bytes one: eight times the room is enough */
         uint8_t *replies = some((size_t)length * 8);
         const uint8_t *from = requests;
         uint8_t *to = replies;

@@ -1,9 +1,10 @@
 //! Condition 3 by calls: each setting's shared run against a plain run of what configuring wrote for it.
 
-use crate::call::{to_answer, to_numbers, Call, Case};
+use crate::answer::{to_numbers, values, After};
+use crate::call::{Call, Case};
+use crate::cases::changed::asked;
 use crate::cases::lent::{self, Subject};
 use crate::cases::random::Random;
-use crate::compare::Replies;
 use crate::paper::conditions::has;
 use crate::server::inside;
 
@@ -22,45 +23,36 @@ pub struct Told<'a> {
     configured: Vec<(usize, Vec<u8>)>,
 }
 
-fn case(call: Call, slices: Vec<Vec<u8>>) -> Case {
-    Case {
-        call,
-        guard: 0x5a,
-        slices,
-    }
-}
-
 fn part(store: &[u8], setting: usize) -> Vec<u8> {
     store[64 * setting..64 * setting + 64].to_vec()
 }
 
 impl Agreement {
     pub fn new(random: &mut Random, subject: &Subject) -> Agreement {
-        let n = subject.settings();
         let set = lent::set(random, subject);
         let budget = lent::budget(random, subject);
-        let store = lent::store(random, 16 * n);
-        let image = &subject.image;
-        let lent = [
-            store,
-            random.bytes(n),
-            random.bytes(4 * n),
-            random.bytes(4 * n),
-        ];
-        let slices = [vec![image.clone()], lent.to_vec(), vec![vec![0; 40]]].concat();
-        let shared = case(Call::SharedRun { set, budget }, slices);
-        let configuring = (0..n as u64)
-            .filter(|&setting| has(set, setting))
-            .map(|setting| {
-                let out = vec![0xee; image.len()];
-                let slices = vec![image.clone(), out, vec![0; 40]];
-                case(Call::Configure { setting }, slices)
-            })
-            .collect();
+        let store = lent::store(random, 16 * subject.settings());
+        let agreement = Agreement::of(&subject.image, set, budget, store);
+        let shared = lent::near_the_end(random, agreement.shared);
+        Agreement {
+            shared,
+            ..agreement
+        }
+    }
+
+    /// Of an accepted image, a set inside its settings, and sixteen numbers for each setting.
+    pub fn of(image: &[u8], set: u64, budget: u32, store: Vec<u8>) -> Agreement {
+        let n = store.len() / 64;
+        let lent = vec![store, vec![0xa5; n], vec![0xa5; 4 * n], vec![0xa5; 4 * n]];
+        let configured = |setting| {
+            let out = vec![0xee; image.len()];
+            asked(Call::Configure { setting }, image, vec![out])
+        };
+        let members = (0..n as u64).filter(|&setting| has(set, setting));
         Agreement {
             set,
-            shared: lent::near_the_end(random, shared),
-            configuring,
+            shared: asked(Call::SharedRun { set, budget }, image, lent),
+            configuring: members.map(configured).collect(),
         }
     }
 
@@ -85,15 +77,22 @@ impl Agreement {
         self.shared.slices[2].len()
     }
 
-    pub fn told(&self, replies: &Replies) -> Told<'_> {
+    pub fn told(&self, replies: &[After]) -> Told<'_> {
         let members = (0..self.settings()).filter(|&s| has(self.set, s as u64));
         let configured = members.zip(&replies[1..]).map(|(setting, reply)| {
-            let length = to_answer(inside(&reply[2]))[2] as usize;
-            (setting, inside(&reply[1])[..length].to_vec())
+            let [length, ..] = values(inside(&reply.slices[2])).unwrap_or_default();
+            (
+                setting,
+                inside(&reply.slices[1])[..length as usize].to_vec(),
+            )
         });
         Told {
             asked: self,
-            shared: replies[0].iter().map(|s| inside(s).to_vec()).collect(),
+            shared: replies[0]
+                .slices
+                .iter()
+                .map(|s| inside(s).to_vec())
+                .collect(),
             configured: configured.collect(),
         }
     }
@@ -110,22 +109,19 @@ impl Told<'_> {
         let both = |(setting, image): &(usize, Vec<u8>)| {
             let numbers = self.start(*setting);
             let out = vec![0xee; image.len()];
-            let five = vec![0; 40];
-            let plain = vec![image.clone(), numbers, five.clone()];
-            let again = vec![image.clone(), out, five];
             [
-                case(Call::PlainRun { budget }, plain),
-                case(Call::Configure { setting: 0 }, again),
+                asked(Call::PlainRun { budget }, image, vec![numbers]),
+                asked(Call::Configure { setting: 0 }, image, vec![out]),
             ]
         };
         self.configured.iter().flat_map(both).collect()
     }
 
-    pub fn agrees(&self, replies: &Replies) -> Result<(), String> {
+    pub fn agrees(&self, replies: &[After]) -> Result<(), String> {
         for ((setting, image), both) in self.configured.iter().zip(replies.chunks(2)) {
-            self.ends_alike(*setting, &both[0])?;
+            self.ends_alike(*setting, &both[0].slices)?;
             // "configuring it again, for setting 0, gives the same bytes"
-            if inside(&both[1][1]) != image {
+            if inside(&both[1].slices[1]) != image {
                 return Err(format!("setting {setting} configured again differs"));
             }
         }
@@ -154,13 +150,13 @@ impl Told<'_> {
     }
 
     fn ends_alike(&self, setting: usize, plain: &[Vec<u8>]) -> Result<(), String> {
-        let answer = to_answer(inside(&plain[2]));
-        let alike = answer[..2] == [0, 0] && answer[2..] == self.three(setting);
+        let came = values(inside(&plain[2]));
+        let alike = came == Some(self.three(setting));
         if alike && inside(&plain[1]) == self.end(setting) {
             return Ok(());
         }
         Err(format!(
-            "setting {setting} ends otherwise in its plain run: {answer:?}"
+            "setting {setting} ends otherwise in its plain run: {came:?}"
         ))
     }
 
@@ -179,7 +175,7 @@ impl Told<'_> {
 
     /// A visit is a step of at least one setting, and the steps of a setting are as many visits.
     fn visits_in_bounds(&self) -> Result<(), String> {
-        let visits = to_answer(&self.shared[5])[2];
+        let [visits, ..] = values(&self.shared[5]).unwrap_or_default();
         let most = self.steps().into_iter().max().unwrap_or(0);
         let all = self.steps().into_iter().sum();
         if (most..=all).contains(&visits) {

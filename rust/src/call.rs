@@ -1,5 +1,6 @@
 //! A call of the bench: its numbers, the bytes of every slice lent to it, and what document 01 says they become.
 
+use crate::answer::{to_bytes, to_numbers, After, ANSWER};
 use crate::paper::check::{check, lowest_choice, refuse_at, refuse_if, Refusal};
 use crate::paper::conditions::{condition_sets, has, set_of, settings};
 use crate::paper::shared::State;
@@ -35,22 +36,30 @@ pub struct Case {
 type Three = Result<[u64; 3], Refusal>;
 
 impl Case {
-    /// Every slice as it must be after the call.
-    pub fn expected(&self) -> Vec<Vec<u8>> {
-        let mut after = self.slices.clone();
+    /// What must come of the call: it answers exactly where the answer space is right, and else changes nothing.
+    pub fn expected(&self) -> After {
+        let mut slices = self.slices.clone();
+        let last = slices.len() - 1;
+        let right = slices[last].len() == 8 * ANSWER;
         if let Some(result) = self.set_result() {
-            after[0] = result.to_le_bytes().to_vec();
-            return after;
+            slices[0] = result.to_le_bytes().to_vec();
+        } else if right {
+            let answer = match self.carried_out(&mut slices) {
+                Ok([first, second, third]) => [0, 0, first, second, third, 0, 0, 0],
+                Err(refusal) => [refusal.number, refusal.place, 0, 0, 0, 0, 0, 0],
+            };
+            slices[last] = answer.iter().flat_map(|n: &u64| n.to_le_bytes()).collect();
         }
-        let answer = match self.carried_out(&mut after) {
-            Ok([first, second, third]) => [0, 0, first, second, third],
-            Err(refusal) => [refusal.number, refusal.place, 0, 0, 0],
-        };
-        // an answer of any other length stays as it was
-        if let Some(last) = after.last_mut().filter(|last| last.len() == 40) {
-            *last = answer.iter().flat_map(|n| n.to_le_bytes()).collect();
-        }
-        after
+        let returned = right || self.set_result().is_some();
+        After { returned, slices }
+    }
+
+    /// The same call with another answer space.
+    pub fn with_answer(&self, answer: Vec<u8>) -> Case {
+        let mut case = self.clone();
+        case.slices.pop();
+        case.slices.push(answer);
+        case
     }
 
     fn carried_out(&self, after: &mut [Vec<u8>]) -> Three {
@@ -168,24 +177,4 @@ fn code(state: State) -> i32 {
         State::Fault(n) => n,
         _ => 0,
     }
-}
-
-pub fn to_numbers(bytes: &[u8]) -> Vec<i32> {
-    let four = |chunk: &[u8]| i32::from_le_bytes([chunk[0], chunk[1], chunk[2], chunk[3]]);
-    bytes.chunks_exact(4).map(four).collect()
-}
-
-pub fn to_bytes(numbers: &[i32]) -> Vec<u8> {
-    numbers.iter().flat_map(|n| n.to_le_bytes()).collect()
-}
-
-/// The five numbers of an answer (or as many as it has).
-pub fn to_answer(bytes: &[u8]) -> Vec<u64> {
-    let whole = |chunk: &[u8]| {
-        chunk
-            .iter()
-            .rev()
-            .fold(0, |n, &byte| n << 8 | u64::from(byte))
-    };
-    bytes.chunks_exact(8).map(whole).collect()
 }

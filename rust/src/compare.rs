@@ -1,13 +1,17 @@
 //! Sends batches of cases to the bench and compares every byte that comes back.
 
 use crate::agreement::Agreement;
+use crate::answer::After;
 use crate::call::Case;
-use crate::cases::{random::Random, round};
+use crate::cases::{every, random::Random, round};
 use crate::server::{guarded, Server};
 use crate::tally::Tally;
 
 /// Rounds in a batch: enough that the pipe costs little, few enough that a failure is near.
 const ROUNDS: u64 = 64;
+
+/// Cases in a batch of those that are not random.
+const CASES: usize = 4096;
 
 /// Why a comparison stopped.
 pub struct Stop(pub String);
@@ -28,9 +32,6 @@ pub struct Bench {
     tally: Tally,
 }
 
-/// For each case every slice after the call, with its guards.
-pub type Replies = Vec<Vec<Vec<u8>>>;
-
 impl Bench {
     pub fn new(server: Server, seed: u64) -> Bench {
         Bench {
@@ -41,6 +42,21 @@ impl Bench {
             agreed: 0,
             tally: Tally::default(),
         }
+    }
+
+    /// What is tried in any case, whatever the seed gives.
+    pub fn every(&mut self) -> Result<(), Stop> {
+        let mut cases = every::cases(self.seed).peekable();
+        while cases.peek().is_some() {
+            let batch: Vec<Case> = cases.by_ref().take(CASES).collect();
+            self.ask(&batch)?;
+        }
+        let mut agreements = every::agreements().peekable();
+        while agreements.peek().is_some() {
+            let batch: Vec<Agreement> = agreements.by_ref().take(CASES / 16).collect();
+            self.agree(&batch)?;
+        }
+        Ok(())
     }
 
     /// Each round has random numbers of its own, so a round does not depend on the rounds before it.
@@ -68,13 +84,14 @@ impl Bench {
         let mut replies = self.ask(&first)?.into_iter();
         let mut told = Vec::new();
         for agreement in agreements {
-            let shared_and_configured: Replies = replies.by_ref().take(agreement.calls()).collect();
+            let shared_and_configured: Vec<After> =
+                replies.by_ref().take(agreement.calls()).collect();
             told.push(agreement.told(&shared_and_configured));
         }
         let second: Vec<Case> = told.iter().flat_map(|told| told.cases()).collect();
         let mut replies = self.ask(&second)?.into_iter();
         for (agreement, told) in agreements.iter().zip(&told) {
-            let second: Replies = replies.by_ref().take(told.calls()).collect();
+            let second: Vec<After> = replies.by_ref().take(told.calls()).collect();
             told.agrees(&second)
                 .map_err(|why| self.stop(&agreement.cases()[0], &why))?;
             self.agreed += 1;
@@ -83,9 +100,9 @@ impl Bench {
     }
 
     /// Compares the replies with what document 01 says, and gives the replies.
-    fn ask(&mut self, cases: &[Case]) -> Result<Replies, Stop> {
+    fn ask(&mut self, cases: &[Case]) -> Result<Vec<After>, Stop> {
         self.server.send(cases)?;
-        let expected: Vec<Vec<Vec<u8>>> = cases.iter().map(Case::expected).collect();
+        let expected: Vec<After> = cases.iter().map(Case::expected).collect();
         let replies = self.server.receive(cases).map_err(|error| {
             Stop(format!(
                 "rust: the server failed ({error}) in cases {} to {}, seed {}",
@@ -96,7 +113,11 @@ impl Bench {
         })?;
         for ((case, expected), reply) in cases.iter().zip(&expected).zip(&replies) {
             self.compared += 1;
-            for (slice, (expected, reply)) in expected.iter().zip(reply).enumerate() {
+            if expected.returned != reply.returned {
+                return Err(self.stop(case, &format!("it returned {}", reply.returned)));
+            }
+            let slices = expected.slices.iter().zip(&reply.slices);
+            for (slice, (expected, reply)) in slices.enumerate() {
                 let expected = guarded(expected, case.guard);
                 if expected != *reply {
                     return Err(self.stop(

@@ -1,7 +1,8 @@
-//! Compares the proved bench with document 01 written once more: `guard-bench-again SEED CASES COMMAND...`, where the
-//! command starts the server that has the bench.
+//! Compares the proved bench with document 01 written once more: `guard-bench-again SEED CASES COMMAND...`, with so many
+//! random cases after those that are always tried; the command starts the server that has the bench.
 
 mod agreement;
+mod answer;
 #[cfg(test)]
 mod by_hand;
 mod call;
@@ -49,7 +50,9 @@ fn run(words: &[String]) -> Result<String, Stop> {
     let seed: u64 = seed.parse().map_err(|_| usage())?;
     let wanted: u64 = wanted.parse().map_err(|_| usage())?;
     let mut bench = Bench::new(Server::start(command)?, seed);
-    while bench.compared < wanted {
+    bench.every()?;
+    let random = bench.compared + wanted;
+    while bench.compared < random {
         bench.batch()?;
     }
     bench.end()

@@ -1,5 +1,6 @@
 //! Speaks with server.c: a batch of cases there, every slice and its guards back.
 
+use crate::answer::After;
 use crate::call::{Call, Case};
 use std::io::{Error, ErrorKind, Read, Result, Write};
 use std::process::{Child, ChildStdin, ChildStdout, Command, Stdio};
@@ -47,24 +48,32 @@ impl Server {
         self.to.flush()
     }
 
-    /// For each case sent, each slice with its guards.
-    pub fn receive(&mut self, cases: &[Case]) -> Result<Vec<Vec<Vec<u8>>>> {
+    /// For each case sent what the call returned, and each slice with its guards.
+    pub fn receive(&mut self, cases: &[Case]) -> Result<Vec<After>> {
         let mut length = [0; 4];
         self.from.read_exact(&mut length)?;
         let mut batch = vec![0; u32::from_le_bytes(length) as usize];
         self.from.read_exact(&mut batch)?;
         let mut rest = batch.as_slice();
-        let mut take = |slice: &Vec<u8>| {
-            let (slice, after) = rest
-                .split_at_checked(slice.len() + 2 * GUARD)
+        let mut take = |length: usize| {
+            let (taken, after) = rest
+                .split_at_checked(length)
                 .ok_or_else(|| Error::other("a reply is too short"))?;
             rest = after;
-            Ok(slice.to_vec())
+            Ok(taken.to_vec())
         };
-        cases
-            .iter()
-            .map(|case| case.slices.iter().map(&mut take).collect())
-            .collect()
+        let mut after = |case: &Case| {
+            let returned = take(1)? == [1];
+            let slices = case
+                .slices
+                .iter()
+                .map(|slice| take(slice.len() + 2 * GUARD));
+            Ok(After {
+                returned,
+                slices: slices.collect::<Result<_>>()?,
+            })
+        };
+        cases.iter().map(&mut after).collect()
     }
 
     /// Ends the server by ending its input.

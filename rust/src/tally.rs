@@ -1,13 +1,16 @@
 //! What the cases came to, so that a reader sees that nothing was left out.
 
-use crate::call::{to_answer, Call, Case};
+use crate::answer::{to_answer, After};
+use crate::call::{Call, Case};
 use std::collections::BTreeMap;
 use std::fmt::{Display, Formatter, Result};
 
 #[derive(Default)]
 pub struct Tally {
-    /// How often each number came (0 for carried out), of the calls with an answer of five.
+    /// How often each number came (0 for carried out), of the calls that answered.
     numbers: BTreeMap<u64, u64>,
+    /// How many calls had a wrong answer space.
+    unanswered: u64,
     /// How many settings of shared runs ended in each outcome.
     outcomes: [u64; 4],
     /// How many plain runs ended in each outcome (there is no idle one).
@@ -15,8 +18,10 @@ pub struct Tally {
 }
 
 impl Tally {
-    pub fn add(&mut self, case: &Case, after: &[Vec<u8>]) {
-        let [number, _, first, _, _] = to_answer(&after[after.len() - 1])[..] else {
+    pub fn add(&mut self, case: &Case, after: &After) {
+        self.unanswered += u64::from(!after.returned);
+        let after = &after.slices;
+        let [number, _, first, _, _, 0, 0, 0] = to_answer(&after[after.len() - 1])[..] else {
             return;
         };
         *self.numbers.entry(number).or_default() += 1;
@@ -38,6 +43,7 @@ impl Display for Tally {
         for (number, times) in &self.numbers {
             write!(to, " {number}: {times}")?;
         }
+        write!(to, "\ncalls with a wrong answer space: {}", self.unanswered)?;
         let [idle, done, fault, out] = self.outcomes;
         write!(
             to,

@@ -1,12 +1,12 @@
 -- "For every input, refused ones too, what a call returns and all memory it was given are determined by its statement; where two results could satisfy it they
 -- are proved equal": of each public call, two results that keep its promise on the same input are equal, the answer and all that is left in what was lent.
-use mathlib.Core.Path.{_≡_, sym, _∙_}
+use mathlib.Core.Path.{_≡_, sym, _∙_, ap}
 use mathlib.Core.Bool.{Bool, not, _&&_, _||_}
 use mathlib.Core.List.{List}
 use Prim.Native.Nat.{ℕ, _^_, _<_}
 use lib.Dec.{eqb, ltb}
 use lib.IntN.{ℤ}
-use lib.ListN.{length}
+use lib.ListN.{length, getD}
 use Rattle.sets.specs.declared.Set.{Set}
 use Rattle.sets.specs.declared.Full.{Full}
 use Rattle.sets.specs.Member.{bit, has, members, verdictOf, fullOf}
@@ -16,6 +16,8 @@ use Rattle.image.specs.declared.conditions.ConditionSet.{ConditionSet}
 use Rattle.image.specs.declared.conditions.ConditionSet.the-variants.{Of}
 use Rattle.image.specs.declared.refusals.Refusal.{Refusal}
 use Rattle.image.specs.Bytes.{Bytes}
+use Rattle.image.specs.Inner.SetsOf.{TableOf}
+use Rattle.image.specs.Theorem.OneTable.{AllSmall, one-table}
 use Rattle.image.specs.Check.{answer-of, shape-of}
 use Rattle.image.specs.Refusals.{number-of, place-of}
 use Rattle.image.specs.Rows.{judge, check-rows}
@@ -44,6 +46,8 @@ pub record Unique : Type 0 where
   pub place : (q : Refusal) (p p′ : ℕ) → p ≡ place-of q → p′ ≡ place-of q → p ≡ p′
   pub condition-set : (l : Bytes) (k : ℕ) (r r′ : ConditionSet) → ((S : Set) → r ≡ Of S → Small S) → ((S : Set) → r′ ≡ Of S → Small S)
       → set-answer r ≡ judge (condition-rows l k) (in-condition l k) → set-answer r′ ≡ judge (condition-rows l k) (in-condition l k) → r ≡ r′
+  -- the table that `condition_sets` lends to the crates above, of numbers of 64 bits
+  pub condition-sets : (l : Bytes) (n : ℕ) (table table′ : List ℕ) → AllSmall table → AllSmall table′ → TableOf l n table → TableOf l n table′ → table ≡ table′
   pub configure : (l : Bytes) (s : ℕ) (out out′ out″ : Bytes) (r r′ : Configured)
       → Configures (configure-rows l s (length out)) l s out out′ r → Configures (configure-rows l s (length out)) l s out out″ r′
       → (r ≡ r′) × (out′ ≡ out″)
@@ -57,6 +61,8 @@ pub record Unique : Type 0 where
   pub report : (input out out′ out″ : Bytes) (r r′ : Report) → Reports (text input) out out′ r → Reports (text input) out out″ r′
       → (r ≡ r′) × (out′ ≡ out″)
   -- ---- sets
+  pub empty : (r r′ : Set) → r .bits ≡ 0 → r′ .bits ≡ 0 → r ≡ r′
+  pub at : (table : List ℕ) (k : ℕ) (r r′ : Set) → r .bits ≡ getD table k 0 → r′ .bits ≡ getD table k 0 → r ≡ r′
   pub meet : (A B r r′ : Set) → Small r → Small r′
       → ((s : ℕ) → has r s ≡ (has A s && has B s)) → ((s : ℕ) → has r′ s ≡ (has A s && has B s)) → r ≡ r′
   pub join : (A B r r′ : Set) → Small r → Small r′
@@ -78,11 +84,14 @@ unique = record {
   number = λ q n n′ e e′. e ∙ sym e′;
   place = λ q p p′ e e′. e ∙ sym e′;
   condition-set = λ l k r r′ h h′ e e′. one-condition-set r r′ h h′ e e′;
+  condition-sets = λ l n table table′ h h′ e e′. one-table h h′ e e′;
   configure = λ l s out out′ out″ r r′ w w′. (one-configure r r′ (w .answered) (w′ .answered), w .out-is ∙ sym (w′ .out-is));
   plain-run = λ l budget ns ns′ ns″ r r′ w w′. (one-plain r r′ (w .answered) (w′ .answered), w .numbers-are ∙ sym (w′ .numbers-are));
   shared-run = λ l set budget xs xs′ xs″ T T′ T″ r r′ w w′.
       (one-shared r r′ (w .answered) (w′ .answered), w .store-is ∙ sym (w′ .store-is), w .tally-is ∙ sym (w′ .tally-is));
   report = λ input out out′ out″ r r′ w w′. (w .answered ∙ sym (w′ .answered), w .out-is ∙ sym (w′ .out-is));
+  empty = λ r r′ e e′. ap (λ (n : ℕ). record { bits = n }) (e ∙ sym e′);
+  at = λ table k r r′ e e′. ap (λ (n : ℕ). record { bits = n }) (e ∙ sym e′);
   meet = λ A B r r′ h h′ e e′. one-set _ r r′ h h′ e e′;
   join = λ A B r r′ h h′ e e′. one-set _ r r′ h h′ e e′;
   take-away = λ A B r r′ h h′ e e′. one-set _ r r′ h h′ e e′;

@@ -1,3 +1,5 @@
 -- What the calls from C reply.
 pub mod Reply
+pub mod Calls
+pub mod Space
 pub mod Shared

@@ -1,11 +1,7 @@
 -- An answer as plain numbers: a refusal's number and place, or number 0 and the call's values.
 use Prim.Native.Nat.{ℕ}
 use mathlib.Core.Bool.{Bool, cond}
-use mathlib.Core.List.{List, [], _∷_}
-use lib.Dec.{eqb, ltb}
-use lib.ListN.{length}
 use Rattle.image.specs.declared.accept.Shape.{Shape}
-use Rattle.image.specs.Bytes.{Bytes, over}
 use Rattle.imp.specs.Numbers.{low32}
 use Rattle.plain.specs.declared.progress.Progress.{Progress}
 use Rattle.shared.specs.declared.Ends.{Ends}
@@ -13,10 +9,10 @@ use Rattle.image.specs.Rows.{Answer, refused, answer}
 use Rattle.calls.specs.declared.Reply.{Reply}
 
 abbrev pub values : ℕ → ℕ → ℕ → Reply
-values x y z = record { number = 0; place = 0; first = x; second = y; third = z }
+values x y z = record { number = 0; place = 0; first = x; second = y; third = z; fourth = 0; fifth = 0; sixth = 0 }
 
 abbrev pub reply : {A : Type 0} → (A → Reply) → Answer A → Reply
-reply of (refused n p) = record { number = n; place = p; first = 0; second = 0; third = 0 }
+reply of (refused n p) = record { number = n; place = p; first = 0; second = 0; third = 0; fourth = 0; fifth = 0; sixth = 0 }
 reply of (answer x) = of x
 
 abbrev pub no-values : ℕ → Reply
@@ -41,14 +37,3 @@ progress-reply p = values (p .outcome) (low32 (p .code)) (p .steps)
 -- the visits, the set in fault, the set out
 abbrev pub ends-reply : Ends → Reply
 ends-reply e = values (e .visits) (e .fault .bits) (e .out .bits)
-
--- the length of the text, and whether it is longer than the space; and what is left in that
-abbrev pub text-reply : Bytes → Bytes → Reply
-text-reply text out = values (length text) (cond (ltb (length out) (length text)) 1 0) 0
-
-abbrev pub text-left : Bytes → Bytes → Bytes
-text-left text out = cond (ltb (length out) (length text)) out (over text out)
-
--- a reply takes all of the space that a caller lends for it, or none
-unfoldable pub filled : Reply → List ℕ → List ℕ
-filled r old = cond (eqb (length old) 5) (r .number ∷ r .place ∷ r .first ∷ r .second ∷ r .third ∷ []) old

@@ -2,16 +2,13 @@
 ghost use mathlib.Core.Path.{_≡_};
 ghost use lib.ListN.{length};
 ghost use Rattle.image.specs.Refusals.{number-of, place-of};
-ghost use Rattle.image.specs.Rows.{refused, judge, check-rows, written};
-ghost use Rattle.image.specs.Check.{shape-of};
-ghost use Rattle.image.specs.Sets.{in-condition, condition-rows};
-ghost use Rattle.configure.specs.Configured.{configured, configure-rows};
-ghost use Rattle.image.specs.Bytes.{over};
-ghost use Rattle.calls.specs.Reply.{reply, no-values, shape-reply, member-reply, length-reply, progress-reply, ends-reply, text-reply, text-left, filled};
-ghost use Rattle.calls.specs.Shared.{EndedAll, AnsweredAll};
+ghost use Rattle.image.specs.Rows.{refused};
 ghost use Rattle.shared.specs.Lent.{tally};
 ghost use Rattle.lines.specs.Text.{text};
-ghost use Rattle.plain.specs.PlainRun.{meant, progress-of, plain-rows};
+ghost use Rattle.calls.specs.Reply.{reply, no-values, values, progress-reply, ends-reply};
+ghost use Rattle.calls.specs.Calls.{check-reply, condition-reply, configure-reply, configure-left, plain-reply, plain-left, text-reply, text-left};
+ghost use Rattle.calls.specs.Space.{answer-length, all-numbers, where-right, Answers};
+ghost use Rattle.calls.specs.Shared.{EndedAll, AnsweredAll};
 use configure::Configured;
 use configure::configure;
 use image::accept::Checked;
@@ -32,13 +29,19 @@ use shared::Ends;
 use shared::SharedRun;
 use shared::shared_run;
 
-// Carried out: number 0 and the call's values. Refused: number and place.
+// How many numbers an answer has: number, place and six values.
+const ANSWER_LENGTH: usize = 8;
+
+// Carried out: number 0 and the call's values, 0 where it has no such value. Refused: number and place.
 pub struct Reply {
     pub number: usize,
     pub place: usize,
     pub first: usize,
     pub second: usize,
     pub third: usize,
+    pub fourth: usize,
+    pub fifth: usize,
+    pub sixth: usize,
 }
 
 fn refused(r: Refusal) -> Reply
@@ -50,55 +53,55 @@ fn refused(r: Refusal) -> Reply
         first: 0,
         second: 0,
         third: 0,
+        fourth: 0,
+        fifth: 0,
+        sixth: 0,
+    }
+}
+
+fn values(first: usize, second: usize, third: usize) -> Reply
+    ensures { λ y. ⌜ y ≡ values first second third ⌝ }
+{
+    Reply {
+        number: 0,
+        place: 0,
+        first: first,
+        second: second,
+        third: third,
+        fourth: 0,
+        fifth: 0,
+        sixth: 0,
     }
 }
 
 // F, C and P.
 fn checked(image: &[u8]) -> Reply
-    ensures { λ y. ⌜ y ≡ reply shape-reply (judge (check-rows (now (image .entry))) (shape-of (now (image .entry)))) ⌝ }
+    ensures { λ y. ⌜ y ≡ check-reply (now (image .entry)) ⌝ }
 {
     match check(image) {
         Checked::Refused(r) => refused(r),
-        Checked::Good(shape) => Reply {
-            number: 0,
-            place: 0,
-            first: shape.options as usize,
-            second: shape.conditions,
-            third: shape.nodes,
-        },
+        Checked::Good(shape) => values(shape.options as usize, shape.conditions, shape.nodes),
     }
 }
 
 // 1 where setting s is in the condition's set, else 0.
 fn member(image: &[u8], condition: usize, s: u64) -> Reply
-    ensures { λ y. ⌜ y ≡ reply (member-reply s) (judge (condition-rows (now (image .entry)) condition) (in-condition (now (image .entry)) condition)) ⌝ }
+    ensures { λ y. ⌜ y ≡ condition-reply (now (image .entry)) condition s ⌝ }
 {
     match condition_set(image, condition) {
         ConditionSet::Refused(r) => refused(r),
-        ConditionSet::Of(set) => Reply {
-            number: 0,
-            place: 0,
-            first: set.has(s) as usize,
-            second: 0,
-            third: 0,
-        },
+        ConditionSet::Of(set) => values(set.has(s) as usize, 0, 0),
     }
 }
 
 // The length written.
 fn written(image: &[u8], setting: u64, out: &mut [u8]) -> Reply
-    ensures { λ y. ⌜ y ≡ reply length-reply (judge (configure-rows (now (image .entry)) setting (length (now (out .entry)))) (length (configured (now (image .entry)) setting))) ⌝ }
-    ensures { λ _. ⌜ now (out .exit) ≡ written (configure-rows (now (image .entry)) setting (length (now (out .entry)))) (over (configured (now (image .entry)) setting) (now (out .entry))) (now (out .entry)) ⌝ }
+    ensures { λ y. ⌜ y ≡ configure-reply (now (image .entry)) setting (now (out .entry)) ⌝ }
+    ensures { λ _. ⌜ now (out .exit) ≡ configure-left (now (image .entry)) setting (now (out .entry)) ⌝ }
 {
     match configure(image, setting, out) {
         Configured::Refused(r) => refused(r),
-        Configured::Length(n) => Reply {
-            number: 0,
-            place: 0,
-            first: n,
-            second: 0,
-            third: 0,
-        },
+        Configured::Length(n) => values(n, 0, 0),
     }
 }
 
@@ -106,18 +109,12 @@ fn written(image: &[u8], setting: u64, out: &mut [u8]) -> Reply
 fn progress(p: Progress) -> Reply
     ensures { λ y. ⌜ y ≡ progress-reply p ⌝ }
 {
-    Reply {
-        number: 0,
-        place: 0,
-        first: p.outcome as usize,
-        second: bits(p.code) as usize,
-        third: p.steps as usize,
-    }
+    values(p.outcome as usize, bits(p.code) as usize, p.steps as usize)
 }
 
 fn ended(image: &[u8], budget: u32, numbers: &mut [i32]) -> Reply
-    ensures { λ y. ⌜ y ≡ reply progress-reply (judge (plain-rows (now (image .entry)) budget (length (now (numbers .entry)))) (progress-of (meant (now (image .entry)) budget (now (numbers .entry))))) ⌝ }
-    ensures { λ _. ⌜ now (numbers .exit) ≡ written (plain-rows (now (image .entry)) budget (length (now (numbers .entry)))) (meant (now (image .entry)) budget (now (numbers .entry)) .numbers) (now (numbers .entry)) ⌝ }
+    ensures { λ y. ⌜ y ≡ plain-reply (now (image .entry)) budget (now (numbers .entry)) ⌝ }
+    ensures { λ _. ⌜ now (numbers .exit) ≡ plain-left (now (image .entry)) budget (now (numbers .entry)) ⌝ }
 {
     match plain_run(image, budget, numbers) {
         PlainRun::Refused(r) => refused(r),
@@ -131,13 +128,7 @@ fn ends(e: Ends) -> Reply
 {
     let fault = e.fault;
     let out = e.out;
-    Reply {
-        number: 0,
-        place: 0,
-        first: e.visits as usize,
-        second: fault.bits as usize,
-        third: out.bits as usize,
-    }
+    values(e.visits as usize, fault.bits as usize, out.bits as usize)
 }
 
 fn ended_all(
@@ -149,7 +140,8 @@ fn ended_all(
     codes: &mut [i32],
     steps: &mut [u32],
 ) -> Reply
-    ensures { λ y. ⌜ EndedAll (now (image .entry)) set budget (now (store .entry)) (tally (now (outcomes .entry)) (now (codes .entry)) (now (steps .entry))) (now (store .exit)) (tally (now (outcomes .exit)) (now (codes .exit)) (now (steps .exit))) y ⌝ }
+    ensures { λ y. ⌜ EndedAll (now (image .entry)) set budget (now (store .entry)) (tally (now (outcomes .entry)) (now (codes .entry)) (now (steps .entry)))
+        (now (store .exit)) (tally (now (outcomes .exit)) (now (codes .exit)) (now (steps .exit))) y ⌝ }
 {
     let on = Set { bits: set };
     match shared_run(image, on, budget, store, outcomes, codes, steps) {
@@ -164,59 +156,75 @@ fn reported(input: &[u8], out: &mut [u8]) -> Reply
     ensures { λ _. ⌜ now (out .exit) ≡ text-left (text (now (input .entry))) (now (out .entry)) ⌝ }
 {
     match report(input, out) {
-        Report::Text(n) => Reply {
-            number: 0,
-            place: 0,
-            first: n,
-            second: 0,
-            third: 0,
-        },
-        Report::Short(n) => Reply {
-            number: 0,
-            place: 0,
-            first: n,
-            second: 1,
-            third: 0,
-        },
+        Report::Text(n) => values(n, 0, 0),
+        Report::Short(n) => values(n, 1, 0),
     }
 }
 
-// The reply's five numbers, where there is space for just these.
 fn fill(r: Reply, answer: &mut [usize])
-    ensures { λ _. ⌜ now (answer .exit) ≡ filled r (now (answer .entry)) ⌝ }
+    requires { ⌜ length (now answer) ≡ answer-length ⌝ }
+    ensures { λ _. ⌜ now (answer .exit) ≡ all-numbers r ⌝ }
 {
-    if answer.len() == 5 {
-        answer[0] = r.number;
-        answer[1] = r.place;
-        answer[2] = r.first;
-        answer[3] = r.second;
-        answer[4] = r.third;
-    }
+    answer[0] = r.number;
+    answer[1] = r.place;
+    answer[2] = r.first;
+    answer[3] = r.second;
+    answer[4] = r.third;
+    answer[5] = r.fourth;
+    answer[6] = r.fifth;
+    answer[7] = r.sixth;
 }
+
+// Every call below answers whether its answer space is right; where it is not, nothing is carried out.
 
 #[no_mangle]
-pub extern "C" fn bench_check(image: &[u8], answer: &mut [usize])
-    ensures { λ _. ⌜ now (answer .exit) ≡ filled (reply shape-reply (judge (check-rows (now (image .entry))) (shape-of (now (image .entry))))) (now (answer .entry)) ⌝ }
+pub extern "C" fn bench_check(image: &[u8], answer: &mut [usize]) -> bool
+    ensures { λ y. ⌜ Answers (now (answer .entry)) (now (answer .exit)) (check-reply (now (image .entry))) y ⌝ }
 {
+    if answer.len() != ANSWER_LENGTH {
+        return false;
+    }
     let r = checked(image);
     fill(r, answer);
+    true
 }
 
 #[no_mangle]
-pub extern "C" fn bench_condition_has(image: &[u8], condition: usize, s: u64, answer: &mut [usize])
-    ensures { λ _. ⌜ now (answer .exit) ≡ filled (reply (member-reply s) (judge (condition-rows (now (image .entry)) condition) (in-condition (now (image .entry)) condition))) (now (answer .entry)) ⌝ }
+pub extern "C" fn bench_condition_has(
+    image: &[u8],
+    condition: usize,
+    s: u64,
+    answer: &mut [usize],
+) -> bool
+    ensures { λ y. ⌜ Answers (now (answer .entry)) (now (answer .exit))
+        (condition-reply (now (image .entry)) condition s) y ⌝ }
 {
+    if answer.len() != ANSWER_LENGTH {
+        return false;
+    }
     let r = member(image, condition, s);
     fill(r, answer);
+    true
 }
 
 #[no_mangle]
-pub extern "C" fn bench_configure(image: &[u8], setting: u64, out: &mut [u8], answer: &mut [usize])
-    ensures { λ _. ⌜ now (answer .exit) ≡ filled (reply length-reply (judge (configure-rows (now (image .entry)) setting (length (now (out .entry)))) (length (configured (now (image .entry)) setting)))) (now (answer .entry)) ⌝ }
-    ensures { λ _. ⌜ now (out .exit) ≡ written (configure-rows (now (image .entry)) setting (length (now (out .entry)))) (over (configured (now (image .entry)) setting) (now (out .entry))) (now (out .entry)) ⌝ }
+pub extern "C" fn bench_configure(
+    image: &[u8],
+    setting: u64,
+    out: &mut [u8],
+    answer: &mut [usize],
+) -> bool
+    ensures { λ y. ⌜ Answers (now (answer .entry)) (now (answer .exit))
+        (configure-reply (now (image .entry)) setting (now (out .entry))) y ⌝ }
+    ensures { λ _. ⌜ now (out .exit) ≡ where-right (now (answer .entry))
+        (configure-left (now (image .entry)) setting (now (out .entry))) (now (out .entry)) ⌝ }
 {
+    if answer.len() != ANSWER_LENGTH {
+        return false;
+    }
     let r = written(image, setting, out);
     fill(r, answer);
+    true
 }
 
 #[no_mangle]
@@ -225,12 +233,18 @@ pub extern "C" fn bench_plain_run(
     budget: u32,
     numbers: &mut [i32],
     answer: &mut [usize],
-)
-    ensures { λ _. ⌜ now (answer .exit) ≡ filled (reply progress-reply (judge (plain-rows (now (image .entry)) budget (length (now (numbers .entry)))) (progress-of (meant (now (image .entry)) budget (now (numbers .entry)))))) (now (answer .entry)) ⌝ }
-    ensures { λ _. ⌜ now (numbers .exit) ≡ written (plain-rows (now (image .entry)) budget (length (now (numbers .entry)))) (meant (now (image .entry)) budget (now (numbers .entry)) .numbers) (now (numbers .entry)) ⌝ }
+) -> bool
+    ensures { λ y. ⌜ Answers (now (answer .entry)) (now (answer .exit))
+        (plain-reply (now (image .entry)) budget (now (numbers .entry))) y ⌝ }
+    ensures { λ _. ⌜ now (numbers .exit) ≡ where-right (now (answer .entry))
+        (plain-left (now (image .entry)) budget (now (numbers .entry))) (now (numbers .entry)) ⌝ }
 {
+    if answer.len() != ANSWER_LENGTH {
+        return false;
+    }
     let r = ended(image, budget, numbers);
     fill(r, answer);
+    true
 }
 
 #[no_mangle]
@@ -243,18 +257,29 @@ pub extern "C" fn bench_shared_run(
     codes: &mut [i32],
     steps: &mut [u32],
     answer: &mut [usize],
-)
-    ensures { λ _. ⌜ AnsweredAll (now (image .entry)) set budget (now (store .entry)) (tally (now (outcomes .entry)) (now (codes .entry)) (now (steps .entry))) (now (store .exit)) (tally (now (outcomes .exit)) (now (codes .exit)) (now (steps .exit))) (now (answer .entry)) (now (answer .exit)) ⌝ }
+) -> bool
+    ensures { λ y. ⌜ AnsweredAll (now (image .entry)) set budget (now (store .entry)) (tally (now (outcomes .entry)) (now (codes .entry)) (now (steps .entry)))
+        (now (store .exit)) (tally (now (outcomes .exit)) (now (codes .exit)) (now (steps .exit))) (now (answer .entry)) (now (answer .exit)) y ⌝ }
 {
+    if answer.len() != ANSWER_LENGTH {
+        return false;
+    }
     let r = ended_all(image, set, budget, store, outcomes, codes, steps);
     fill(r, answer);
+    true
 }
 
 #[no_mangle]
-pub extern "C" fn bench_report(input: &[u8], out: &mut [u8], answer: &mut [usize])
-    ensures { λ _. ⌜ now (answer .exit) ≡ filled (text-reply (text (now (input .entry))) (now (out .entry))) (now (answer .entry)) ⌝ }
-    ensures { λ _. ⌜ now (out .exit) ≡ text-left (text (now (input .entry))) (now (out .entry)) ⌝ }
+pub extern "C" fn bench_report(input: &[u8], out: &mut [u8], answer: &mut [usize]) -> bool
+    ensures { λ y. ⌜ Answers (now (answer .entry)) (now (answer .exit))
+        (text-reply (text (now (input .entry))) (now (out .entry))) y ⌝ }
+    ensures { λ _. ⌜ now (out .exit) ≡ where-right (now (answer .entry))
+        (text-left (text (now (input .entry))) (now (out .entry))) (now (out .entry)) ⌝ }
 {
+    if answer.len() != ANSWER_LENGTH {
+        return false;
+    }
     let r = reported(input, out);
     fill(r, answer);
+    true
 }

@@ -27,3 +27,4 @@ pub mod Written
 pub mod Decode
 pub mod RoundTrip
 pub mod One
+pub mod OneTable

@@ -1,7 +1,8 @@
 //! What is lent to a call besides the image: its numbers and its slices, right most of the time.
 
 use super::random::Random;
-use crate::call::{to_answer, to_bytes, to_numbers, Call, Case};
+use crate::answer::{to_bytes, to_numbers, values, ANSWER};
+use crate::call::{Call, Case};
 use crate::paper::image::Header;
 use crate::paper::report::text;
 
@@ -45,12 +46,12 @@ fn numbers(random: &mut Random, exact: usize) -> Vec<u8> {
 }
 
 pub fn answer(random: &mut Random) -> Vec<u8> {
-    let five = if random.once_in(25) {
-        random.below(9)
+    let numbers = if random.once_in(25) {
+        random.below(13)
     } else {
-        5
+        ANSWER
     };
-    random.bytes(8 * five)
+    random.bytes(8 * numbers)
 }
 
 /// A budget that is not refused; a great one only where a run that never ends is soon worked out.
@@ -189,8 +190,8 @@ pub fn near_the_end(random: &mut Random, mut case: Case) -> Case {
     if !random.once_in(3) {
         return case;
     }
-    let after = case.expected();
-    let [0, 0, _, _, plain_steps] = to_answer(&after[after.len() - 1])[..] else {
+    let after = case.expected().slices;
+    let Some([_, _, plain_steps]) = values(&after[after.len() - 1]) else {
         return case;
     };
     let near = |random: &mut Random, steps: u32| {

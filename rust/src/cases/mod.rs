@@ -1,9 +1,15 @@
-//! Random cases, in rounds: an image, and calls made with it.
+//! Cases that are tried in any case, and random ones in rounds: an image, and calls made with it.
 
 mod accepted;
+mod budgets;
+pub mod changed;
 mod damaged;
+pub mod every;
 pub mod lent;
 pub mod random;
+pub mod refused;
+pub mod samples;
+mod spaces;
 
 use crate::call::Case;
 use crate::paper::check::check;

@@ -1,9 +1,14 @@
--- `bench_configure` meets its contract: the reply of `written`, in the space lent for it.
-use mathlib.Core.Path.{_∙_, ap}
+-- `bench_configure` meets its contract: nothing where the answer space is wrong, else the reply of `written`.
+use native.Mathlib.Omega.{arith}
 use borrow.Author.Needs.{needs}
-use Rattle.calls.specs.Reply.{filled}
+use Rattle.calls.proofs.Answering.{refuses, keeps, answers, leaves}
 use Rattle.calls.proofs.bench_configure.Statement.{statement}
 use Rattle.calls.proofs.bench_configure.Tie as tie
+
+returns : tie.Need-returns
+returns c =
+    let space = c .before .before .before .before .args .answer .now in
+    (refuses space _ (λ e. omega (arith, e, c .if1 .taken)), keeps space _ _ (λ e. omega (arith, e, c .if1 .taken)))
 
 written-requires : tie.Need-written-requires
 written-requires c κs = search needs
@@ -17,11 +22,12 @@ same-length c = search needs
 same-length-2 : tie.Need-same-length-2
 same-length-2 c = search needs
 
-returns : tie.Need-returns
-returns c =
-    let call = c .before .before .before .before .before .before .written in
-    (c .before .before .fill .ensures ∙ ap (λ r. filled r (c .before .before .before .before .before .before .before .before .before .before .before .args .answer .now)) (call .ensures .0), call .ensures .1)
+returns-2 : tie.Need-returns-2
+returns-2 c =
+    let space = c .before .before .before .before .before .before .before .before .before .before .before .before .args .answer .now in
+    let right = c .before .before .before .before .before .before .before .before .if1 .left in
+    let call = c .before .before .before .before .before .before .written .ensures in
+    (answers space _ _ _ right (c .before .before .fill .ensures) (call .0), leaves space _ _ _ right (call .1))
 
 pub bench-configure-spec : {M : Type 1} → statement M
-bench-configure-spec =
-    tie.close (tie.spec written-requires fill-requires same-length same-length-2 returns)
+bench-configure-spec = tie.close (tie.spec returns written-requires fill-requires same-length same-length-2 returns-2)

@@ -1,9 +1,14 @@
--- `bench_report` meets its contract: the reply of `reported`, in the space lent for it.
-use mathlib.Core.Path.{_∙_, ap}
+-- `bench_report` meets its contract: nothing where the answer space is wrong, else the reply of `reported`.
+use native.Mathlib.Omega.{arith}
 use borrow.Author.Needs.{needs}
-use Rattle.calls.specs.Reply.{filled}
+use Rattle.calls.proofs.Answering.{refuses, keeps, answers, leaves}
 use Rattle.calls.proofs.bench_report.Statement.{statement}
 use Rattle.calls.proofs.bench_report.Tie as tie
+
+returns : tie.Need-returns
+returns c =
+    let space = c .before .before .before .before .args .answer .now in
+    (refuses space _ (λ e. omega (arith, e, c .if1 .taken)), keeps space _ _ (λ e. omega (arith, e, c .if1 .taken)))
 
 reported-requires : tie.Need-reported-requires
 reported-requires c κs = search needs
@@ -17,11 +22,12 @@ same-length c = search needs
 same-length-2 : tie.Need-same-length-2
 same-length-2 c = search needs
 
-returns : tie.Need-returns
-returns c =
+returns-2 : tie.Need-returns-2
+returns-2 c =
+    let space = c .before .before .before .before .before .before .before .before .before .before .before .before .args .answer .now in
+    let right = c .before .before .before .before .before .before .before .before .if1 .left in
     let call = c .before .before .before .before .before .before .reported .ensures in
-    (c .before .before .fill .ensures ∙ ap (λ r. filled r (c .before .before .before .before .before .before .before .before .before .before .before .args .answer .now)) (call .0), call .1)
+    (answers space _ _ _ right (c .before .before .fill .ensures) (call .0), leaves space _ _ _ right (call .1))
 
 pub bench-report-spec : {M : Type 1} → statement M
-bench-report-spec =
-    tie.close (tie.spec reported-requires fill-requires same-length same-length-2 returns)
+bench-report-spec = tie.close (tie.spec returns reported-requires fill-requires same-length same-length-2 returns-2)

@@ -1,9 +1,18 @@
--- `bench_shared_run` meets its contract: the reply of `ended_all`, in the space lent for it.
-use mathlib.Core.Path.{_∙_, ap}
+-- `bench_shared_run` meets its contract: nothing where the answer space is wrong, else the reply of `ended_all`.
+use native.Mathlib.Omega.{arith}
 use borrow.Author.Needs.{needs}
-use Rattle.calls.specs.Reply.{filled}
+use Rattle.calls.proofs.Answering.{refuses, keeps, answers, leaves}
 use Rattle.calls.proofs.bench_shared_run.Statement.{statement}
 use Rattle.calls.proofs.bench_shared_run.Tie as tie
+
+returns : tie.Need-returns
+returns c =
+    let space = c .before .before .before .before .before .args .answer .now in
+    record {
+      answers = refuses space _ (λ e. omega (arith, e, c .if1 .taken));
+      store-is = keeps space _ _ (λ e. omega (arith, e, c .if1 .taken));
+      tally-is = keeps space _ _ (λ e. omega (arith, e, c .if1 .taken));
+    }
 
 ended-all-requires : tie.Need-ended-all-requires
 ended-all-requires c κs = search needs
@@ -26,15 +35,24 @@ same-length-4 c = search needs
 same-length-5 : tie.Need-same-length-5
 same-length-5 c = search needs
 
-returns : tie.Need-returns
-returns c =
-    let call = c .before .before .before .before .before .before .before .before .before .before .ended-all .ensures in
-    record { answer-is = c .before .before .fill .ensures ∙ ap (λ r. filled r (c .before .before .before .before .before .before .before .before .before .before .before .before .before .before .before .before .before .before .before .args .answer .now)) (call .reply-is); leaves = call .leaves }
+returns-2 : tie.Need-returns-2
+returns-2 c =
+    let ran = c .before .before .before .before .before .before .before .before .before .before in
+    let tested = ran .before .before .before .before .before in
+    let space = tested .before .before .before .before .before .args .answer .now in
+    let right = tested .if1 .left in
+    let call = ran .ended-all .ensures in
+    record {
+      answers = answers space _ _ _ right (c .before .before .fill .ensures) (call .reply-is);
+      store-is = leaves space _ _ _ right (call .store-is);
+      tally-is = leaves space _ _ _ right (call .tally-is);
+    }
 
 pub bench-shared-run-spec : {M : Type 1} → statement M
 bench-shared-run-spec =
     tie.close
     (tie.spec
+    returns
     ended-all-requires
     fill-requires
     same-length
@@ -42,4 +60,4 @@ bench-shared-run-spec =
     same-length-3
     same-length-4
     same-length-5
-    returns)
+    returns-2)

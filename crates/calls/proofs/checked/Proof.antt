@@ -18,17 +18,23 @@ refused-requires c κs = search needs
 enum-known-shape : tie.Need-enum-known-shape
 enum-known-shape c = search needs
 
-cast-t6 : tie.Need-cast-t6
-cast-t6 c = search needs
+cast-values : tie.Need-cast-values
+cast-values c = search needs
+
+values-requires : tie.Need-values-requires
+values-requires c κs = search needs
 
 returns : tie.Need-returns
 returns c =
     c .refused .ensures
-    ∙ ap (λ x. reply shape-reply (answer-of x)) (sym (c .before .before .r .given .1)) ∙ ap (reply shape-reply) (c .before .before .before .before .check .ensures)
+    ∙ ap (λ x. reply shape-reply (answer-of x)) (sym (c .before .before .r .given .1))
+    ∙ ap (reply shape-reply) (c .before .before .before .before .check .ensures)
 
 returns-2 : tie.Need-returns-2
 returns-2 c =
-    ap (λ x. reply shape-reply (answer-of x)) (sym (c .before .before .shape .given .1)) ∙ ap (reply shape-reply) (c .before .before .before .before .check .ensures)
+    c .values .ensures
+    ∙ ap (λ x. reply shape-reply (answer-of x)) (sym (c .before .before .before .shape .given .1))
+    ∙ ap (reply shape-reply) (c .before .before .before .before .before .check .ensures)
 
 pub checked-spec : {M : Type 1} → statement M
 checked-spec =
@@ -38,6 +44,7 @@ checked-spec =
     enum-known-r
     refused-requires
     enum-known-shape
-    cast-t6
+    cast-values
+    values-requires
     returns
     returns-2)

@@ -10,14 +10,15 @@ use Rattle.shared.specs.Lent.{Tally}
 use Rattle.shared.specs.SharedRun.{shared-answer, shared-rows, SharedRuns}
 use Rattle.calls.specs.declared.Reply.{Reply}
 use Rattle.calls.specs.Reply.{reply, ends-reply}
-use Rattle.calls.specs.Shared.{reply-all, EndedAll}
+use Rattle.calls.specs.Shared.{reply-all, store-left, tally-left, EndedAll}
 use Rattle.calls.proofs.ended_all.Statement.{statement}
 use Rattle.calls.proofs.ended_all.Tie as tie
 
 told : {l : Bytes} {set budget : ℕ} {xs xs′ : List ℤ} {T T′ : Tally} {r : SharedRun} {y : Reply}
     → SharedRuns (shared-rows l set budget xs T) l set budget xs T xs′ T′ r → y ≡ reply ends-reply (shared-answer r) → EndedAll l set budget xs T xs′ T′ y
-unfolding reply-all
-told h e = record { reply-is = e ∙ ap (reply ends-reply) (h .answered); leaves = record { store-is = h .store-is; tally-is = h .tally-is } }
+unfolding reply-all store-left tally-left
+told h e =
+    record { reply-is = e ∙ ap (reply ends-reply) (h .answered); store-is = h .store-is; tally-is = h .tally-is }
 
 shared-run-requires : tie.Need-shared-run-requires
 shared-run-requires c κs = search needs
@@ -47,7 +48,9 @@ same-length-4 : tie.Need-same-length-4
 same-length-4 c = search needs
 
 returns : tie.Need-returns
-returns c = told (c .before .before .before .before .before .before .before .before .before .before .shared-run .ensures) (c .refused .ensures ∙ ap (λ x. reply ends-reply (shared-answer x)) (sym (c .before .before .r .given .1)))
+returns c =
+    let call = c .before .before .before .before .before .before .before .before .before .before .shared-run .ensures in
+    told call (c .refused .ensures ∙ ap (λ x. reply ends-reply (shared-answer x)) (sym (c .before .before .r .given .1)))
 
 same-length-5 : tie.Need-same-length-5
 same-length-5 c = search needs
@@ -62,7 +65,9 @@ same-length-8 : tie.Need-same-length-8
 same-length-8 c = search needs
 
 returns-2 : tie.Need-returns-2
-returns-2 c = told (c .before .before .before .before .before .before .before .before .before .before .shared-run .ensures) (c .ends .ensures ∙ ap (λ x. reply ends-reply (shared-answer x)) (sym (c .before .before .e .given .1)))
+returns-2 c =
+    let call = c .before .before .before .before .before .before .before .before .before .before .shared-run .ensures in
+    told call (c .ends .ensures ∙ ap (λ x. reply ends-reply (shared-answer x)) (sym (c .before .before .e .given .1)))
 
 pub ended-all-spec : {M : Type 1} → statement M
 ended-all-spec =

@@ -24,8 +24,11 @@ enum-known-set c = search needs
 has-requires : tie.Need-has-requires
 has-requires c κs = search needs
 
-cast-t9 : tie.Need-cast-t9
-cast-t9 c = search needs
+cast-values : tie.Need-cast-values
+cast-values c = search needs
+
+values-requires : tie.Need-values-requires
+values-requires c κs = search needs
 
 in-numbers : (u : Bool) → boolByte u ≡ cond u 1 0
 in-numbers true = refl
@@ -35,13 +38,16 @@ returns : tie.Need-returns
 returns c =
     let s : ℕ = c .before .before .before .before .before .before .args .s in
     c .refused .ensures
-    ∙ ap (λ x. reply (member-reply s) (set-answer x)) (sym (c .before .before .r .given .1)) ∙ ap (reply (member-reply s)) (c .before .before .before .before .condition-set .ensures)
+    ∙ ap (λ x. reply (member-reply s) (set-answer x)) (sym (c .before .before .r .given .1))
+    ∙ ap (reply (member-reply s)) (c .before .before .before .before .condition-set .ensures)
 
 returns-2 : tie.Need-returns-2
 returns-2 c =
-    let s : ℕ = c .before .before .before .before .before .before .args .s in
-    ap (λ u. values u 0 0) (in-numbers (c .has .result) ∙ ap (λ u. cond u 1 0) (c .has .ensures))
-    ∙ ap (λ x. reply (member-reply s) (set-answer x)) (sym (c .before .before .set .given .1)) ∙ ap (reply (member-reply s)) (c .before .before .before .before .condition-set .ensures)
+    let s : ℕ = c .before .before .before .before .before .before .before .args .s in
+    c .values .ensures
+    ∙ ap (λ u. values u 0 0) (in-numbers (c .before .has .result) ∙ ap (λ u. cond u 1 0) (c .before .has .ensures))
+    ∙ ap (λ x. reply (member-reply s) (set-answer x)) (sym (c .before .before .before .set .given .1))
+    ∙ ap (reply (member-reply s)) (c .before .before .before .before .before .condition-set .ensures)
 
 pub member-spec : {M : Type 1} → statement M
 member-spec =
@@ -52,6 +58,7 @@ member-spec =
     refused-requires
     enum-known-set
     has-requires
-    cast-t9
+    cast-values
+    values-requires
     returns
     returns-2)

@@ -13,7 +13,8 @@ place-requires : tie.Need-place-requires
 place-requires c κs = search needs
 
 returns : tie.Need-returns
-returns c = λ i. record { number = c .before .number .ensures i; place = c .place .ensures i; first = 0; second = 0; third = 0 }
+returns c =
+    λ i. record { number = c .before .number .ensures i; place = c .place .ensures i; first = 0; second = 0; third = 0; fourth = 0; fifth = 0; sixth = 0 }
 
 pub refused-spec : {M : Type 1} → statement M
 refused-spec = tie.close (tie.spec number-requires cast-t3 place-requires returns)

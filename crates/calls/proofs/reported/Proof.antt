@@ -10,7 +10,8 @@ use Rattle.lines.specs.declared.answer.Report.{Report}
 use Rattle.lines.specs.declared.answer.Report.the-variants.{Text, Short}
 use Rattle.lines.specs.Report.{Reports}
 use Rattle.calls.specs.declared.Reply.{Reply}
-use Rattle.calls.specs.Reply.{values, text-reply, text-left}
+use Rattle.calls.specs.Reply.{values}
+use Rattle.calls.specs.Calls.{text-reply, text-left}
 use Rattle.calls.proofs.reported.Statement.{statement}
 use Rattle.calls.proofs.reported.Tie as tie
 
@@ -22,8 +23,10 @@ of-length : (u : Bool) (n : ℕ) → in-numbers (cond u (Short n) (Text n)) ≡ 
 of-length true n = refl
 of-length false n = refl
 
-told : {text out out′ : Bytes} {q r : Report} → q ≡ r → Reports text out out′ r → (in-numbers q ≡ text-reply text out) × (out′ ≡ text-left text out)
-told {text} {out} e h = (ap in-numbers (e ∙ h .answered) ∙ of-length (ltb (length out) (length text)) (length text), h .out-is)
+told : {text out out′ : Bytes} {q r : Report} {y : Reply}
+    → y ≡ in-numbers q → q ≡ r → Reports text out out′ r → (y ≡ text-reply text out) × (out′ ≡ text-left text out)
+told {text} {out} v e h =
+    (v ∙ ap in-numbers (e ∙ h .answered) ∙ of-length (ltb (length out) (length text)) (length text), h .out-is)
 
 report-requires : tie.Need-report-requires
 report-requires c κs = search needs
@@ -34,17 +37,23 @@ enum-known-n c = search needs
 enum-known-n-2 : tie.Need-enum-known-n-2
 enum-known-n-2 c = search needs
 
+values-requires : tie.Need-values-requires
+values-requires c κs = search needs
+
+values-requires-2 : tie.Need-values-requires-2
+values-requires-2 c κs = search needs
+
 same-length : tie.Need-same-length
 same-length c = search needs
 
 returns : tie.Need-returns
-returns c = told (sym (c .before .n .given .1)) (c .before .before .before .before .before .report .ensures)
+returns c = told (c .values .ensures) (sym (c .before .before .n .given .1)) (c .before .before .before .before .before .before .report .ensures)
 
 same-length-2 : tie.Need-same-length-2
 same-length-2 c = search needs
 
 returns-2 : tie.Need-returns-2
-returns-2 c = told (sym (c .before .n2 .given .1)) (c .before .before .before .before .before .report .ensures)
+returns-2 c = told (c .values2 .ensures) (sym (c .before .before .n2 .given .1)) (c .before .before .before .before .before .before .report .ensures)
 
 pub reported-spec : {M : Type 1} → statement M
 reported-spec =
@@ -52,7 +61,9 @@ reported-spec =
     (tie.spec
     report-requires
     enum-known-n
+    values-requires
     enum-known-n-2
+    values-requires-2
     same-length
     returns
     same-length-2

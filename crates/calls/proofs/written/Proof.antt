@@ -18,6 +18,9 @@ refused-requires c κs = search needs
 enum-known-n : tie.Need-enum-known-n
 enum-known-n c = search needs
 
+values-requires : tie.Need-values-requires
+values-requires c κs = search needs
+
 same-length : tie.Need-same-length
 same-length c = search needs
 
@@ -34,8 +37,9 @@ same-length-2 c = search needs
 
 returns-2 : tie.Need-returns-2
 returns-2 c =
-    let call = c .before .before .before .before .before .configure in (
-      ap (λ x. reply length-reply (configure-answer x)) (sym (c .before .n .given .1)) ∙ ap (reply length-reply) (call .ensures .answered),
+    let call = c .before .before .before .before .before .before .configure in (
+      c .values .ensures
+          ∙ ap (λ x. reply length-reply (configure-answer x)) (sym (c .before .before .n .given .1)) ∙ ap (reply length-reply) (call .ensures .answered),
       call .ensures .out-is,
     )
 
@@ -47,6 +51,7 @@ written-spec =
     enum-known-r
     refused-requires
     enum-known-n
+    values-requires
     same-length
     returns
     same-length-2

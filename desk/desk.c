@@ -1,0 +1,78 @@
+/* An example for programs in C: the overheat routine checked, run in all its settings at once, and once more in setting 3 alone. From the repository's folder:
+     rt staticlib calls
+     gcc -std=c11 -Iinclude -o target/desk desk/desk.c target/staticlib/libcalls.a && target/desk
+   (.ci/c-run calls desk/desk.c does this, and on Arm cross-compiles and emulates.) It ends with status 1 where an answer is not the one it must be. */
+#include "bench.h"
+#include <ctype.h>
+#include <stdio.h>
+#include <stdlib.h>
+#include <string.h>
+
+enum { BUDGET = 100, MOST_SETTINGS = 64 };
+
+static const char *const words[] = {"idle", "done", "fault", "out"};
+
+static void must(bool good, const char *what, const size_t *answer) {
+    if (good) return;
+    printf("desk: %s: number %zu, place %zu\n", what, answer[BENCH_NUMBER], answer[BENCH_PLACE]);
+    exit(1);
+}
+
+/* A routine of routines/: hexadecimal digits, and comments from # to the end of the line. */
+static size_t read_routine(const char *name, uint8_t *image) {
+    FILE *file = fopen(name, "r");
+    size_t digits = 0;
+    if (!file) perror(name), exit(1);
+    for (int c; (c = fgetc(file)) != EOF;) {
+        if (c == '#')
+            while (c != '\n' && c != EOF) c = fgetc(file);
+        if (!isxdigit(c) || digits == 2 * BENCH_LONGEST_IMAGE) continue;
+        unsigned digit = isdigit(c) ? c - '0' : toupper(c) - 'A' + 10;
+        image[digits / 2] = digits % 2 ? image[digits / 2] << 4 | digit : digit;
+        digits++;
+    }
+    fclose(file);
+    return digits / 2;
+}
+
+int main(void) {
+    static uint8_t image[BENCH_LONGEST_IMAGE], alone[BENCH_LONGEST_IMAGE];
+    static int32_t store[16 * MOST_SETTINGS], codes[MOST_SETTINGS];
+    static uint8_t outcomes[MOST_SETTINGS];
+    static uint32_t steps[MOST_SETTINGS];
+    size_t answer[BENCH_ANSWER] = {0};
+    size_t length = read_routine("routines/overheat.txt", image);
+
+    bool answered = bench_check(image, length, answer, BENCH_ANSWER);
+    must(answered && answer[BENCH_NUMBER] == 0, "the check", answer);
+    size_t n = (size_t)1 << answer[BENCH_OPTIONS];
+    printf("%zu options, %zu conditions, %zu nodes: %zu settings\n", answer[BENCH_OPTIONS], answer[BENCH_CONDITIONS], answer[BENCH_NODES], n);
+
+    /* all settings at once; all numbers start at 0 */
+    uint64_t all = n == 64 ? UINT64_MAX : ((uint64_t)1 << n) - 1;
+    answered = bench_shared_run(image, length, all, BUDGET, store, 16 * n, outcomes, n, codes, n, steps, n, answer, BENCH_ANSWER);
+    must(answered && answer[BENCH_NUMBER] == 0, "the run over all settings", answer);
+    for (size_t s = 0; s < n; s++)
+        printf("setting %zu: %s, code %d, %u steps, water of %.1f degrees\n", s, words[outcomes[s]], codes[s], steps[s], store[16 * s] / 10.0);
+    must(answer[BENCH_VISITS] == 12 && answer[BENCH_IN_FAULT] == 1 << 2 && answer[BENCH_ARE_OUT] == 0, "visits, faults, out", answer);
+    must(outcomes[2] == BENCH_FAULT && codes[2] == 7, "setting 2 ends in fault 7", answer);
+    must(outcomes[3] == BENCH_DONE && store[16 * 3] == 380, "setting 3 is done over hot water", answer);
+
+    /* setting 3 alone: the routine configured for it, and its plain run */
+    answered = bench_configure(image, length, 3, alone, sizeof alone, answer, BENCH_ANSWER);
+    must(answered && answer[BENCH_NUMBER] == 0, "configuring for setting 3", answer);
+    size_t written = answer[BENCH_LENGTH];
+    int32_t numbers[16] = {0};
+    answered = bench_plain_run(alone, written, BUDGET, numbers, 16, answer, BENCH_ANSWER);
+    must(answered && answer[BENCH_NUMBER] == 0, "the plain run", answer);
+    printf("setting 3 alone, %zu bytes: %s, code %d, %zu steps\n", written, words[answer[BENCH_OUTCOME]], (int32_t)answer[BENCH_CODE], answer[BENCH_STEPS]);
+    must(answer[BENCH_OUTCOME] == outcomes[3] && answer[BENCH_STEPS] == steps[3], "the plain run ends as the shared run", answer);
+    must(memcmp(numbers, store + 16 * 3, sizeof numbers) == 0, "the same numbers", answer);
+
+    /* what is refused has a number and a place */
+    must(bench_plain_run(image, length, BUDGET, numbers, 16, answer, BENCH_ANSWER), "an answer", answer);
+    must(answer[BENCH_NUMBER] == BENCH_CHOICE_HELD && answer[BENCH_PLACE] == 2, "a plain run of an image that holds choices", answer);
+    must(!bench_check(image, length, answer, BENCH_ANSWER - 1), "no answer without space for it", answer);
+    printf("desk: ok\n");
+    return 0;
+}
