@@ -74,7 +74,8 @@ fn all_hold(
     steps: &[u32],
 ) -> bool
     requires { ⌜ Lengths (length (now outcomes)) (length (now store)) (length (now codes)) (length (now steps)) ⌝ }
-    ensures { λ r. ⌜ r ≡ all-hold (now (image .entry)) (set .bits) budget visits (now (store .entry)) (tally (now (outcomes .entry)) (now (codes .entry)) (now (steps .entry))) ⌝ }
+    ensures { λ r. ⌜ r ≡ all-hold (now (image .entry)) (set .bits) budget visits (now (store .entry))
+        (tally (now (outcomes .entry)) (now (codes .entry)) (now (steps .entry))) ⌝ }
 {
     let mut sum: u64 = 0;
     let mut good = true;
@@ -104,7 +105,8 @@ fn compare_lent(
     steps: &mut [u32],
 ) -> Verdict
     requires { ⌜ Lengths (length (now outcomes)) (length (now store)) (length (now codes)) (length (now steps)) ⌝ }
-    ensures { λ r. ⌜ r ≡ compared (length (now (outcomes .entry))) (now (image .entry)) (set .bits) budget (tally (now (outcomes .entry)) (now (codes .entry)) (now (steps .entry))) ⌝ }
+    ensures { λ r. ⌜ r ≡ compared (length (now (outcomes .entry))) (now (image .entry)) (set .bits) budget
+        (tally (now (outcomes .entry)) (now (codes .entry)) (now (steps .entry))) ⌝ }
 {
     let n = outcomes.len();
     fill(0, store);

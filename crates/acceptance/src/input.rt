@@ -3,7 +3,7 @@ ghost use mathlib.Core.Path.{_≡_};
 ghost use Prim.Native.Nat.{_+_, _≤_};
 ghost use lib.ListN.{length};
 ghost use Rattle.image.specs.Bytes.{number-at};
-use image::records::number_at;
+use image::number_at;
 
 // The budget: a number of four bytes has 32 bits.
 pub fn four(input: &[u8], at: usize) -> u32

@@ -9,7 +9,7 @@ mod numbers; // numbers.rt: a setting's sixteen numbers
 mod tell; // tell.rt: a line for each routine
 
 use compare::compare;
-use image::records::number_at;
+use image::number_at;
 use input::four;
 use sets::Set;
 use tell::tell;

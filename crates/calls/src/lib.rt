@@ -19,7 +19,7 @@ use image::refusals::Refusal;
 use image::refusals::number;
 use image::refusals::place;
 use imp::bits;
-use lines::answer::Report;
+use lines::Report;
 use lines::report;
 use plain::PlainRun;
 use plain::plain_run;

@@ -27,7 +27,8 @@ pub enum Configured {
 // The last test, 14, and the writing: header, then nodes.
 fn configure_ready(image: &[u8], shape: Shape, sets: &[u64], s: u64, out: &mut [u8]) -> Configured
     requires { ⌜ Ready (now image) (shape .conditions) (now sets) s × (shape .nodes ≡ header (now image) .nodes) ⌝ }
-    ensures { λ r. ⌜ Configures (space-rows (now (image .entry)) s (length (now (out .entry)))) (now (image .entry)) s (now (out .entry)) (now (out .exit)) r ⌝ }
+    ensures { λ r. ⌜ Configures (space-rows (now (image .entry)) s (length (now (out .entry)))) (now (image .entry)) s (now (out .entry))
+        (now (out .exit)) r ⌝ }
 {
     let nodes = shape.nodes;
     let conditions = shape.conditions;
@@ -42,7 +43,8 @@ fn configure_ready(image: &[u8], shape: Shape, sets: &[u64], s: u64, out: &mut [
 
 // "Configuring answers the length written": refusals 1 to 8, 11, 14.
 pub fn configure(image: &[u8], setting: u64, out: &mut [u8]) -> Configured
-    ensures { λ r. ⌜ Configures (configure-rows (now (image .entry)) setting (length (now (out .entry)))) (now (image .entry)) setting (now (out .entry)) (now (out .exit)) r ⌝ }
+    ensures { λ r. ⌜ Configures (configure-rows (now (image .entry)) setting (length (now (out .entry)))) (now (image .entry)) setting
+        (now (out .entry)) (now (out .exit)) r ⌝ }
 {
     match check(image) {
         Checked::Refused(r) => Configured::Refused(r),

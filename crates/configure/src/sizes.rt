@@ -15,7 +15,7 @@ use image::kinds::OF_B;
 use image::kinds::is_choice;
 use image::kinds::layout;
 use image::kinds::names_node;
-use image::records::node_at;
+use image::node_at;
 
 // The size of the child that a field names; none, where it names no node.
 fn slot_size(slot: u32, value: usize, sizes: &[usize]) -> usize

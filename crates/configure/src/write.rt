@@ -8,6 +8,7 @@ ghost use lib.Seq.{sets};
 ghost use Rattle.image.specs.Layout.{names-node};
 ghost use Rattle.image.specs.Term.{node-word, bytes-of};
 ghost use Rattle.configure.specs.Inner.Writing.{Writing, Wrote, hung, SlotWriting, SlotWrote, Fields, named, own-word, Ended};
+use image::Node;
 use image::choice::chosen;
 use image::kinds::NUMBER;
 use image::kinds::OF_A;
@@ -15,8 +16,7 @@ use image::kinds::OF_B;
 use image::kinds::is_choice;
 use image::kinds::layout;
 use image::kinds::names_node;
-use image::records::Node;
-use image::records::node_at;
+use image::node_at;
 
 // The eight bytes of w, most significant first; the least is stored first.
 pub fn put(out: &mut [u8], at: usize, w: u64)

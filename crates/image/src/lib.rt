@@ -5,5 +5,10 @@ pub mod conditions; // conditions.rt: the sets of conditions
 mod fits; // fits.rt: what one record may hold
 pub mod kinds; // kinds.rt: the kinds by name, and what each holds
 mod names; // names.rt: how often each node is named
-pub mod records; // records.rt: the fields of header, conditions and nodes
+mod records; // records.rt: the fields of header, conditions and nodes
 pub mod refusals; // refusals.rt: document 01's refusals
+
+// The crates above read numbers and nodes.
+pub use records::Node;
+pub use records::node_at;
+pub use records::number_at;

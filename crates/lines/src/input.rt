@@ -3,7 +3,7 @@ ghost use mathlib.Core.Path.{_≡_};
 ghost use Prim.Native.Nat.{_≤_};
 ghost use lib.ListN.{length};
 ghost use Rattle.lines.specs.Text.{set-in, budget-in};
-use image::records::number_at;
+use image::number_at;
 
 // "the set in 8 bytes and the budget in 4"
 pub fn set_in(input: &[u8]) -> u64

@@ -9,12 +9,12 @@ ghost use Rattle.lines.specs.Inner.Puts.{Puts};
 ghost use Rattle.lines.specs.Report.{Reports};
 ghost use Rattle.lines.specs.Inner.Telling.{Blank, Good};
 
-pub mod answer; // answer.rt: what is answered, and a text handed over
+mod answer; // answer.rt: what is answered, and a text handed over
 mod decimal; // decimal.rt: numbers
 mod input; // input.rt: the set and the budget
 mod line; // line.rt: lines
 
-use answer::Report;
+pub use answer::Report;
 use answer::hand_over;
 use image::accept::Checked;
 use image::accept::check;

@@ -60,7 +60,9 @@ fn put_line(out: &mut [u8], at: usize, s: usize, p: Progress) -> usize
 // The lines of all settings, in order.
 pub fn put_lines(out: &mut [u8], outcomes: &[u8], codes: &[i32], steps: &[u32]) -> usize
     requires { ⌜ Lined (length (now out)) (now outcomes) (now codes) (now steps) ⌝ }
-    ensures { λ r. ⌜ Puts (tallied (length (now (outcomes .entry))) (tally (now (outcomes .entry)) (now (codes .entry)) (now (steps .entry)))) 0 (now (out .entry)) (now (out .exit)) r ⌝ }
+    ensures { λ r. ⌜ Puts
+        (tallied (length (now (outcomes .entry))) (tally (now (outcomes .entry)) (now (codes .entry)) (now (steps .entry)))) 0
+        (now (out .entry)) (now (out .exit)) r ⌝ }
     ensures { λ r. ⌜ r ≤ 2048 ⌝ }
 {
     let mut at: usize = 0;

@@ -5,7 +5,7 @@ ghost use Rattle.image.specs.Records.{node};
 ghost use Rattle.image.specs.Rows.{lowest};
 ghost use Rattle.image.specs.Inner.Whole.{Whole};
 use image::kinds::is_choice;
-use image::records::node_at;
+use image::node_at;
 
 // The lowest choice, and P where there is none.
 pub fn lowest_choice(image: &[u8], conditions: usize, nodes: usize) -> usize

@@ -14,7 +14,7 @@ use image::kinds::PICK;
 use image::kinds::SUM;
 use image::kinds::TRUE;
 use image::kinds::VARIABLE;
-use image::records::node_at;
+use image::node_at;
 use imp::less;
 use imp::signed;
 use imp::sum;

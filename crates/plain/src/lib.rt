@@ -1,4 +1,4 @@
-// The run of one setting: the value of an expression, and the plain run.
+// The run of one setting: the value of an expression, and the plain run. What the shared run does in each of its settings is lent to it (`pub use`).
 ghost use mathlib.Core.Path.{_≡_};
 ghost use lib.ListN.{length};
 ghost use Rattle.image.specs.Check.{shape-of};
@@ -11,7 +11,6 @@ pub mod progress; // progress.rt: how far a setting is
 mod run; // run.rt: a statement
 mod step; // step.rt: what a statement does by itself
 
-// What the shared run does in each of its settings.
 use choices::lowest_choice;
 pub use evaluate::boolean;
 use image::accept::Checked;
@@ -37,7 +36,8 @@ pub enum PlainRun {
 // Tests 10 and 12, and the run: in an image with no choice every setting is the same.
 fn run_accepted(image: &[u8], shape: Shape, budget: u32, numbers: &mut [i32]) -> PlainRun
     requires { ⌜ Accepted (now image) × (shape ≡ shape-of (now image)) ⌝ }
-    ensures { λ r. ⌜ Runs (lent-rows budget (length (now (numbers .entry)))) (now (image .entry)) budget (now (numbers .entry)) (now (numbers .exit)) r ⌝ }
+    ensures { λ r. ⌜ Runs (lent-rows budget (length (now (numbers .entry)))) (now (image .entry)) budget (now (numbers .entry))
+        (now (numbers .exit)) r ⌝ }
 {
     if LARGEST_BUDGET < budget {
         return PlainRun::Refused(Refusal::BudgetOver);
@@ -65,7 +65,8 @@ fn run_accepted(image: &[u8], shape: Shape, budget: u32, numbers: &mut [i32]) ->
 
 // "The plain run takes an image, a budget and 16 numbers and answers outcome, code, steps": refusals 1 to 8, 13, 10, 12.
 pub fn plain_run(image: &[u8], budget: u32, numbers: &mut [i32]) -> PlainRun
-    ensures { λ r. ⌜ Runs (plain-rows (now (image .entry)) budget (length (now (numbers .entry)))) (now (image .entry)) budget (now (numbers .entry)) (now (numbers .exit)) r ⌝ }
+    ensures { λ r. ⌜ Runs (plain-rows (now (image .entry)) budget (length (now (numbers .entry)))) (now (image .entry)) budget
+        (now (numbers .entry)) (now (numbers .exit)) r ⌝ }
 {
     match check(image) {
         Checked::Refused(r) => PlainRun::Refused(r),

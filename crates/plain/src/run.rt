@@ -13,6 +13,7 @@ use crate::step::decided;
 use crate::step::fault;
 use crate::step::take;
 use crate::step::tested;
+use image::Node;
 use image::choice::chosen;
 use image::kinds::ASSIGN;
 use image::kinds::CHOICE;
@@ -21,8 +22,7 @@ use image::kinds::SEQUENCE;
 use image::kinds::SKIP;
 use image::kinds::THROW;
 use image::kinds::WHILE;
-use image::records::Node;
-use image::records::node_at;
+use image::node_at;
 
 // "Each beginning counts one step": a choice is not begun, and what is not live after its beginning does nothing.
 pub fn run(
@@ -36,7 +36,8 @@ pub fn run(
     numbers: &mut [i32],
 ) -> Progress
     requires { ⌜ Running (now image) conditions (now sets) s n p (now numbers) ⌝ }
-    ensures { λ r. ⌜ Ran (running budget (configure s (read (now (image .entry)) n .statement)) (state-of p (now (numbers .entry)))) r (now (numbers .exit)) ⌝ }
+    ensures { λ r. ⌜ Ran (running budget (configure s (read (now (image .entry)) n .statement)) (state-of p (now (numbers .entry)))) r
+        (now (numbers .exit)) ⌝ }
 {
     let node = node_at(image, conditions, n);
     let kind = node.kind;
@@ -101,7 +102,8 @@ fn attempt(
     numbers: &mut [i32],
 ) -> Progress
     requires { ⌜ Trying (now image) conditions (now sets) s (node .a) (node .variable) (node .b) p (now numbers) ⌝ }
-    ensures { λ r. ⌜ Ran (trying budget s (now (image .entry)) (node .a) (node .variable) (node .b) (state-of p (now (numbers .entry)))) r (now (numbers .exit)) ⌝ }
+    ensures { λ r. ⌜ Ran (trying budget s (now (image .entry)) (node .a) (node .variable) (node .b) (state-of p (now (numbers .entry)))) r
+        (now (numbers .exit)) ⌝ }
 {
     let r = run(image, conditions, sets, s, node.a, budget, p, numbers);
     if r.outcome != FAULT {

@@ -15,8 +15,8 @@ use crate::progress::FAULT;
 use crate::progress::LIVE;
 use crate::progress::OUT;
 use crate::progress::Progress;
+use image::Node;
 use image::choice::side;
-use image::records::Node;
 
 // Begins a statement: "a run which has already begun as many as its budget stops as out"; what is not live passes by.
 pub fn begin(budget: u32, p: Progress) -> Progress
@@ -86,7 +86,9 @@ pub fn assign(
 ) -> Progress
     requires { ⌜ Evaluating (now image) conditions (now sets) s (node .a) 1 (now numbers) ⌝ }
     requires { ⌜ (node .variable < 16) × Proper (p .outcome) (p .code) ⌝ }
-    ensures { λ r. ⌜ Ran (store (node .variable) (valueIn s (read (now (image .entry)) (node .a) .arithmetic) (now (numbers .entry))) (state-of p (now (numbers .entry)))) r (now (numbers .exit)) ⌝ }
+    ensures { λ r. ⌜ Ran
+        (store (node .variable) (valueIn s (read (now (image .entry)) (node .a) .arithmetic) (now (numbers .entry)))
+        (state-of p (now (numbers .entry)))) r (now (numbers .exit)) ⌝ }
 {
     let x = arithmetic(image, conditions, sets, s, node.a, numbers);
     let v = node.variable;
@@ -105,7 +107,9 @@ pub fn fault(
     numbers: &[i32],
 ) -> Progress
     requires { ⌜ Evaluating (now image) conditions (now sets) s (node .a) 1 (now numbers) ⌝ }
-    ensures { λ r. ⌜ Ran (thrown (valueIn s (read (now (image .entry)) (node .a) .arithmetic) (now (numbers .entry))) (state-of p (now (numbers .entry)))) r (now (numbers .entry)) ⌝ }
+    ensures { λ r. ⌜ Ran
+        (thrown (valueIn s (read (now (image .entry)) (node .a) .arithmetic) (now (numbers .entry))) (state-of p (now (numbers .entry)))) r
+        (now (numbers .entry)) ⌝ }
 {
     let code = arithmetic(image, conditions, sets, s, node.a, numbers);
     Progress {

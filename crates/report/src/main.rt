@@ -7,7 +7,7 @@ use libc::STDERR_FILENO;
 use libc::STDIN_FILENO;
 use libc::STDOUT_FILENO;
 use lines::ENOUGH;
-use lines::answer::Report;
+use lines::Report;
 use lines::report;
 
 // "one beyond the longest possible input"

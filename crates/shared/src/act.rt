@@ -7,9 +7,9 @@ use crate::lent::progress_of;
 use crate::lent::set_progress;
 use crate::plan::Plan;
 use crate::turn::Turn;
+use image::Node;
 use image::kinds::ASSIGN;
 use image::kinds::THROW;
-use image::records::Node;
 use plain::assign;
 use plain::fault;
 use plain::progress::Progress;
@@ -51,7 +51,9 @@ fn act_at(
     steps: &mut [u32],
 )
     requires { ⌜ ActingAt (now image) plan (now sets) node s (now store) (tally (now outcomes) (now codes) (now steps)) ⌝ }
-    ensures { λ _. ⌜ ActedAt (now (image .entry)) plan node on s (now (store .entry)) (tally (now (outcomes .entry)) (now (codes .entry)) (now (steps .entry))) (now (store .exit)) (tally (now (outcomes .exit)) (now (codes .exit)) (now (steps .exit))) ⌝ }
+    ensures { λ _. ⌜ ActedAt (now (image .entry)) plan node on s (now (store .entry))
+        (tally (now (outcomes .entry)) (now (codes .entry)) (now (steps .entry))) (now (store .exit))
+        (tally (now (outcomes .exit)) (now (codes .exit)) (now (steps .exit))) ⌝ }
 {
     if !on.has(s as u64) {
         return;
@@ -84,7 +86,9 @@ pub fn act_for(
     steps: &mut [u32],
 )
     requires { ⌜ ActingFor (now image) plan (now sets) node (turn .on) (now store) (tally (now outcomes) (now codes) (now steps)) ⌝ }
-    ensures { λ _. ⌜ ActedFor (now (image .entry)) plan node (turn .on) (now (store .entry)) (tally (now (outcomes .entry)) (now (codes .entry)) (now (steps .entry))) (now (store .exit)) (tally (now (outcomes .exit)) (now (codes .exit)) (now (steps .exit))) ⌝ }
+    ensures { λ _. ⌜ ActedFor (now (image .entry)) plan node (turn .on) (now (store .entry))
+        (tally (now (outcomes .entry)) (now (codes .entry)) (now (steps .entry))) (now (store .exit))
+        (tally (now (outcomes .exit)) (now (codes .exit)) (now (steps .exit))) ⌝ }
 {
     let n = plan.settings;
     for s in 0..n {

@@ -8,8 +8,8 @@ ghost use Rattle.sets.specs.Member.{has};
 ghost use Rattle.shared.specs.Lent.{part};
 ghost use Rattle.shared.specs.Inner.Asking.{asking, Asks, AskingAt, AskingFor};
 use crate::plan::Plan;
+use image::Node;
 use image::kinds::TRY;
-use image::records::Node;
 use plain::boolean;
 use plain::progress::FAULT;
 use sets::Set;
@@ -46,7 +46,11 @@ fn ask_at(
     store: &[i32],
 ) -> Set
     requires { ⌜ AskingAt (now image) plan (now sets) node s (now outcomes) (now store) ⌝ }
-    ensures { λ r. ⌜ ((t : ℕ) → has r t ≡ (has found t || ((has on t && eqb t s) && asking (now (image .entry)) node t (getD (now (outcomes .entry)) t 0) (part (now (store .entry)) t)))) ⌝ }
+    ensures { λ r. ⌜
+        ((t : ℕ) → has r t ≡
+        (has found t ||
+        ((has on t && eqb t s) && asking (now (image .entry)) node t (getD (now (outcomes .entry)) t 0)
+        (part (now (store .entry)) t)))) ⌝ }
 {
     if !on.has(s as u64) {
         return found;
@@ -79,7 +83,9 @@ pub fn ask_for(
     store: &[i32],
 ) -> Set
     requires { ⌜ AskingFor (now image) plan (now sets) node on (now outcomes) (now store) ⌝ }
-    ensures { λ r. ⌜ ((t : ℕ) → has r t ≡ (has on t && asking (now (image .entry)) node t (getD (now (outcomes .entry)) t 0) (part (now (store .entry)) t))) ⌝ }
+    ensures { λ r. ⌜
+        ((t : ℕ) → has r t ≡
+        (has on t && asking (now (image .entry)) node t (getD (now (outcomes .entry)) t 0) (part (now (store .entry)) t))) ⌝ }
 {
     let n = plan.settings;
     let mut found = Set::empty();

@@ -25,7 +25,9 @@ fn begin_at(
     steps: &mut [u32],
 ) -> Set
     requires { ⌜ BeginningAt (plan .settings) s (tally (now outcomes) (now codes) (now steps)) ⌝ }
-    ensures { λ r. ⌜ BeganAt (plan .settings) (plan .budget) on s left (tally (now (outcomes .entry)) (now (codes .entry)) (now (steps .entry))) (tally (now (outcomes .exit)) (now (codes .exit)) (now (steps .exit))) r ⌝ }
+    ensures { λ r. ⌜ BeganAt (plan .settings) (plan .budget) on s left
+        (tally (now (outcomes .entry)) (now (codes .entry)) (now (steps .entry)))
+        (tally (now (outcomes .exit)) (now (codes .exit)) (now (steps .exit))) r ⌝ }
 {
     if !on.has(s as u64) {
         return left;
@@ -41,7 +43,8 @@ fn begin_at(
 // "If any are left, that is one visit, whatever their number": and each of them has one step less to go.
 fn counted(left: Set, rem: u32, visits: u32) -> Turn
     requires { ⌜ (visits ≤ 6400000) × ((members (left .bits) 64 ≡ 0 → ⊥) → 0 < rem) ⌝ }
-    ensures { λ r. ⌜ r ≡ cond (eqb (members (left .bits) 64) 0) (record { on = left; rem = rem; visits = visits }) (record { on = left; rem = rem - 1; visits = visits + 1 }) ⌝ }
+    ensures { λ r. ⌜ r ≡ cond (eqb (members (left .bits) 64) 0) (record { on = left; rem = rem; visits = visits })
+        (record { on = left; rem = rem - 1; visits = visits + 1 }) ⌝ }
 {
     if left.is_empty() {
         return Turn {
@@ -66,7 +69,9 @@ pub fn begin_for(
     steps: &mut [u32],
 ) -> Turn
     requires { ⌜ BeginningFor (plan .settings) (plan .budget) (turn .on) (turn .rem) (turn .visits) (tally (now outcomes) (now codes) (now steps)) ⌝ }
-    ensures { λ r. ⌜ BegunFor (plan .settings) (plan .budget) (turn .on) (turn .rem) (turn .visits) (tally (now (outcomes .entry)) (now (codes .entry)) (now (steps .entry))) (tally (now (outcomes .exit)) (now (codes .exit)) (now (steps .exit))) r ⌝ }
+    ensures { λ r. ⌜ BegunFor (plan .settings) (plan .budget) (turn .on) (turn .rem) (turn .visits)
+        (tally (now (outcomes .entry)) (now (codes .entry)) (now (steps .entry)))
+        (tally (now (outcomes .exit)) (now (codes .exit)) (now (steps .exit))) r ⌝ }
 {
     let n = plan.settings;
     let mut left = Set::empty();

@@ -30,7 +30,8 @@ pub fn set_progress(
     steps: &mut [u32],
 )
     requires { ⌜ (s < length (now outcomes)) × (s < length (now codes)) × (s < length (now steps)) ⌝ }
-    ensures { λ _. ⌜ tally (now (outcomes .exit)) (now (codes .exit)) (now (steps .exit)) ≡ put s p (tally (now (outcomes .entry)) (now (codes .entry)) (now (steps .entry))) ⌝ }
+    ensures { λ _. ⌜ tally (now (outcomes .exit)) (now (codes .exit)) (now (steps .exit)) ≡ put s p
+        (tally (now (outcomes .entry)) (now (codes .entry)) (now (steps .entry))) ⌝ }
 {
     let outcome = p.outcome;
     let code = p.code;

@@ -63,7 +63,9 @@ fn run_lent(
     steps: &mut [u32],
 ) -> Ends
     requires { ⌜ Carried (now image) shape set budget (now store) (tally (now outcomes) (now codes) (now steps)) ⌝ }
-    ensures { λ r. ⌜ SharedRuns [] (now (image .entry)) (set .bits) budget (now (store .entry)) (tally (now (outcomes .entry)) (now (codes .entry)) (now (steps .entry))) (now (store .exit)) (tally (now (outcomes .exit)) (now (codes .exit)) (now (steps .exit))) (Ended r) ⌝ }
+    ensures { λ r. ⌜ SharedRuns [] (now (image .entry)) (set .bits) budget (now (store .entry))
+        (tally (now (outcomes .entry)) (now (codes .entry)) (now (steps .entry))) (now (store .exit))
+        (tally (now (outcomes .exit)) (now (codes .exit)) (now (steps .exit))) (Ended r) ⌝ }
 {
     let sets = condition_sets(image, shape);
     let n = outcomes.len();
@@ -119,7 +121,11 @@ fn run_accepted(
     steps: &mut [u32],
 ) -> SharedRun
     requires { ⌜ Accepted (now image) × (shape ≡ shape-of (now image)) ⌝ }
-    ensures { λ r. ⌜ SharedRuns (set-rows (now (image .entry)) (set .bits) budget (now (store .entry)) (tally (now (outcomes .entry)) (now (codes .entry)) (now (steps .entry)))) (now (image .entry)) (set .bits) budget (now (store .entry)) (tally (now (outcomes .entry)) (now (codes .entry)) (now (steps .entry))) (now (store .exit)) (tally (now (outcomes .exit)) (now (codes .exit)) (now (steps .exit))) r ⌝ }
+    ensures { λ r. ⌜ SharedRuns
+        (set-rows (now (image .entry)) (set .bits) budget (now (store .entry))
+        (tally (now (outcomes .entry)) (now (codes .entry)) (now (steps .entry)))) (now (image .entry)) (set .bits) budget
+        (now (store .entry)) (tally (now (outcomes .entry)) (now (codes .entry)) (now (steps .entry))) (now (store .exit))
+        (tally (now (outcomes .exit)) (now (codes .exit)) (now (steps .exit))) r ⌝ }
 {
     let all = all_settings(shape.options);
     let beyond = set.take_away(all);
@@ -147,7 +153,11 @@ pub fn shared_run(
     codes: &mut [i32],
     steps: &mut [u32],
 ) -> SharedRun
-    ensures { λ r. ⌜ SharedRuns (shared-rows (now (image .entry)) (set .bits) budget (now (store .entry)) (tally (now (outcomes .entry)) (now (codes .entry)) (now (steps .entry)))) (now (image .entry)) (set .bits) budget (now (store .entry)) (tally (now (outcomes .entry)) (now (codes .entry)) (now (steps .entry))) (now (store .exit)) (tally (now (outcomes .exit)) (now (codes .exit)) (now (steps .exit))) r ⌝ }
+    ensures { λ r. ⌜ SharedRuns
+        (shared-rows (now (image .entry)) (set .bits) budget (now (store .entry))
+        (tally (now (outcomes .entry)) (now (codes .entry)) (now (steps .entry)))) (now (image .entry)) (set .bits) budget
+        (now (store .entry)) (tally (now (outcomes .entry)) (now (codes .entry)) (now (steps .entry))) (now (store .exit))
+        (tally (now (outcomes .exit)) (now (codes .exit)) (now (steps .exit))) r ⌝ }
 {
     match check(image) {
         Checked::Refused(r) => SharedRun::Refused(r),

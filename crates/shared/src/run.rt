@@ -12,14 +12,14 @@ use crate::turn::Turn;
 use crate::turn::after;
 use crate::turn::for_some;
 use crate::turn::for_those;
+use image::Node;
 use image::kinds::CHOICE;
 use image::kinds::IF;
 use image::kinds::SEQUENCE;
 use image::kinds::SKIP;
 use image::kinds::TRY;
 use image::kinds::WHILE;
-use image::records::Node;
-use image::records::node_at;
+use image::node_at;
 use sets::Set;
 
 // A choice is not begun: it goes "by its condition, without visit or step". What is begun for none is not run.
@@ -35,8 +35,12 @@ pub fn run(
     steps: &mut [u32],
 ) -> u32
     requires { ⌜ OfClass (now image) n 3 ⌝ }
-    requires { ⌜ Sharing (now image) plan (now sets) (turn .rem) (turn .on) (turn .visits) (now store) (tally (now outcomes) (now codes) (now steps)) ⌝ }
-    ensures { λ r. ⌜ Shares (plan .settings) (sharing plan (now (image .entry)) n (bit (turn .on .bits)) (as-shared (now (store .entry)) (tally (now (outcomes .entry)) (now (codes .entry)) (now (steps .entry))) (turn .visits))) r (now (store .exit)) (tally (now (outcomes .exit)) (now (codes .exit)) (now (steps .exit))) ⌝ }
+    requires { ⌜ Sharing (now image) plan (now sets) (turn .rem) (turn .on) (turn .visits) (now store)
+        (tally (now outcomes) (now codes) (now steps)) ⌝ }
+    ensures { λ r. ⌜ Shares (plan .settings)
+        (sharing plan (now (image .entry)) n (bit (turn .on .bits))
+        (as-shared (now (store .entry)) (tally (now (outcomes .entry)) (now (codes .entry)) (now (steps .entry))) (turn .visits))) r
+        (now (store .exit)) (tally (now (outcomes .exit)) (now (codes .exit)) (now (steps .exit))) ⌝ }
 {
     let node = node_at(image, plan.conditions, n);
     let kind = node.kind;
@@ -75,9 +79,14 @@ fn both(
     steps: &mut [u32],
 ) -> u32
     requires { ⌜ OfClass (now image) x 3 × OfClass (now image) y 3 ⌝ }
-    requires { ⌜ Sharing (now image) plan (now sets) (turn .rem) (turn .on) (turn .visits) (now store) (tally (now outcomes) (now codes) (now steps)) ⌝ }
+    requires { ⌜ Sharing (now image) plan (now sets) (turn .rem) (turn .on) (turn .visits) (now store)
+        (tally (now outcomes) (now codes) (now steps)) ⌝ }
     requires { ⌜ Sharing (now image) plan (now sets) (turn .rem) rest (turn .visits) (now store) (tally (now outcomes) (now codes) (now steps)) ⌝ }
-    ensures { λ r. ⌜ Shares (plan .settings) (sharing plan (now (image .entry)) y (bit (rest .bits)) (sharing plan (now (image .entry)) x (bit (turn .on .bits)) (as-shared (now (store .entry)) (tally (now (outcomes .entry)) (now (codes .entry)) (now (steps .entry))) (turn .visits)))) r (now (store .exit)) (tally (now (outcomes .exit)) (now (codes .exit)) (now (steps .exit))) ⌝ }
+    ensures { λ r. ⌜ Shares (plan .settings)
+        (sharing plan (now (image .entry)) y (bit (rest .bits))
+        (sharing plan (now (image .entry)) x (bit (turn .on .bits))
+        (as-shared (now (store .entry)) (tally (now (outcomes .entry)) (now (codes .entry)) (now (steps .entry))) (turn .visits))))
+        r (now (store .exit)) (tally (now (outcomes .exit)) (now (codes .exit)) (now (steps .exit))) ⌝ }
 {
     let visits = run(image, plan, sets, x, turn, store, outcomes, codes, steps);
     let next = after(for_those(rest, turn), visits);
@@ -97,8 +106,12 @@ fn choose(
     steps: &mut [u32],
 ) -> u32
     requires { ⌜ Chooses (now image) node ⌝ }
-    requires { ⌜ Sharing (now image) plan (now sets) (turn .rem) (turn .on) (turn .visits) (now store) (tally (now outcomes) (now codes) (now steps)) ⌝ }
-    ensures { λ r. ⌜ Shares (plan .settings) (choosing plan (now (image .entry)) node (bit (turn .on .bits)) (as-shared (now (store .entry)) (tally (now (outcomes .entry)) (now (codes .entry)) (now (steps .entry))) (turn .visits))) r (now (store .exit)) (tally (now (outcomes .exit)) (now (codes .exit)) (now (steps .exit))) ⌝ }
+    requires { ⌜ Sharing (now image) plan (now sets) (turn .rem) (turn .on) (turn .visits) (now store)
+        (tally (now outcomes) (now codes) (now steps)) ⌝ }
+    ensures { λ r. ⌜ Shares (plan .settings)
+        (choosing plan (now (image .entry)) node (bit (turn .on .bits))
+        (as-shared (now (store .entry)) (tally (now (outcomes .entry)) (now (codes .entry)) (now (steps .entry))) (turn .visits))) r
+        (now (store .exit)) (tally (now (outcomes .exit)) (now (codes .exit)) (now (steps .exit))) ⌝ }
 {
     let chosen = Set::at(sets, node.a);
     let yes = for_those(turn.on.meet(chosen), turn);
@@ -131,8 +144,12 @@ fn follow(
     steps: &mut [u32],
 ) -> u32
     requires { ⌜ Follows (now image) node ⌝ }
-    requires { ⌜ Sharing (now image) plan (now sets) (turn .rem) (turn .on) (turn .visits) (now store) (tally (now outcomes) (now codes) (now steps)) ⌝ }
-    ensures { λ r. ⌜ Shares (plan .settings) (following plan (now (image .entry)) node (bit (turn .on .bits)) (as-shared (now (store .entry)) (tally (now (outcomes .entry)) (now (codes .entry)) (now (steps .entry))) (turn .visits))) r (now (store .exit)) (tally (now (outcomes .exit)) (now (codes .exit)) (now (steps .exit))) ⌝ }
+    requires { ⌜ Sharing (now image) plan (now sets) (turn .rem) (turn .on) (turn .visits) (now store)
+        (tally (now outcomes) (now codes) (now steps)) ⌝ }
+    ensures { λ r. ⌜ Shares (plan .settings)
+        (following plan (now (image .entry)) node (bit (turn .on .bits))
+        (as-shared (now (store .entry)) (tally (now (outcomes .entry)) (now (codes .entry)) (now (steps .entry))) (turn .visits))) r
+        (now (store .exit)) (tally (now (outcomes .exit)) (now (codes .exit)) (now (steps .exit))) ⌝ }
 {
     both(
         image,
@@ -162,8 +179,12 @@ fn decide(
     steps: &mut [u32],
 ) -> u32
     requires { ⌜ Decides (now image) node ⌝ }
-    requires { ⌜ Sharing (now image) plan (now sets) (turn .rem) (turn .on) (turn .visits) (now store) (tally (now outcomes) (now codes) (now steps)) ⌝ }
-    ensures { λ r. ⌜ Shares (plan .settings) (deciding plan (now (image .entry)) node (bit (turn .on .bits)) (as-shared (now (store .entry)) (tally (now (outcomes .entry)) (now (codes .entry)) (now (steps .entry))) (turn .visits))) r (now (store .exit)) (tally (now (outcomes .exit)) (now (codes .exit)) (now (steps .exit))) ⌝ }
+    requires { ⌜ Sharing (now image) plan (now sets) (turn .rem) (turn .on) (turn .visits) (now store)
+        (tally (now outcomes) (now codes) (now steps)) ⌝ }
+    ensures { λ r. ⌜ Shares (plan .settings)
+        (deciding plan (now (image .entry)) node (bit (turn .on .bits))
+        (as-shared (now (store .entry)) (tally (now (outcomes .entry)) (now (codes .entry)) (now (steps .entry))) (turn .visits))) r
+        (now (store .exit)) (tally (now (outcomes .exit)) (now (codes .exit)) (now (steps .exit))) ⌝ }
 {
     let yes = ask_for(image, plan, sets, node, turn.on, outcomes, store);
     let no = turn.on.take_away(yes);
@@ -196,8 +217,12 @@ fn repeat(
     steps: &mut [u32],
 ) -> u32
     requires { ⌜ Repeats (now image) node ⌝ }
-    requires { ⌜ Sharing (now image) plan (now sets) (turn .rem) (turn .on) (turn .visits) (now store) (tally (now outcomes) (now codes) (now steps)) ⌝ }
-    ensures { λ r. ⌜ Shares (plan .settings) (turning plan (now (image .entry)) node (bit (turn .on .bits)) (as-shared (now (store .entry)) (tally (now (outcomes .entry)) (now (codes .entry)) (now (steps .entry))) (turn .visits))) r (now (store .exit)) (tally (now (outcomes .exit)) (now (codes .exit)) (now (steps .exit))) ⌝ }
+    requires { ⌜ Sharing (now image) plan (now sets) (turn .rem) (turn .on) (turn .visits) (now store)
+        (tally (now outcomes) (now codes) (now steps)) ⌝ }
+    ensures { λ r. ⌜ Shares (plan .settings)
+        (turning plan (now (image .entry)) node (bit (turn .on .bits))
+        (as-shared (now (store .entry)) (tally (now (outcomes .entry)) (now (codes .entry)) (now (steps .entry))) (turn .visits))) r
+        (now (store .exit)) (tally (now (outcomes .exit)) (now (codes .exit)) (now (steps .exit))) ⌝ }
 {
     let b = node.b;
     let yes = ask_for(image, plan, sets, node, turn.on, outcomes, store);
@@ -224,8 +249,12 @@ fn attempt(
     steps: &mut [u32],
 ) -> u32
     requires { ⌜ Attempts (now image) node ⌝ }
-    requires { ⌜ Sharing (now image) plan (now sets) (turn .rem) (turn .on) (turn .visits) (now store) (tally (now outcomes) (now codes) (now steps)) ⌝ }
-    ensures { λ r. ⌜ Shares (plan .settings) (trying plan (now (image .entry)) node (bit (turn .on .bits)) (as-shared (now (store .entry)) (tally (now (outcomes .entry)) (now (codes .entry)) (now (steps .entry))) (turn .visits))) r (now (store .exit)) (tally (now (outcomes .exit)) (now (codes .exit)) (now (steps .exit))) ⌝ }
+    requires { ⌜ Sharing (now image) plan (now sets) (turn .rem) (turn .on) (turn .visits) (now store)
+        (tally (now outcomes) (now codes) (now steps)) ⌝ }
+    ensures { λ r. ⌜ Shares (plan .settings)
+        (trying plan (now (image .entry)) node (bit (turn .on .bits))
+        (as-shared (now (store .entry)) (tally (now (outcomes .entry)) (now (codes .entry)) (now (steps .entry))) (turn .visits))) r
+        (now (store .exit)) (tally (now (outcomes .exit)) (now (codes .exit)) (now (steps .exit))) ⌝ }
 {
     let a = node.a;
     let b = node.b;

@@ -23,7 +23,8 @@ fn first_outcome(set: Set, s: usize) -> u8
 // Setting s has its first progress.
 fn start_at(set: Set, s: usize, outcomes: &mut [u8], codes: &mut [i32], steps: &mut [u32])
     requires { ⌜ (s < length (now outcomes)) × (s < length (now codes)) × (s < length (now steps)) ⌝ }
-    ensures { λ _. ⌜ tally (now (outcomes .exit)) (now (codes .exit)) (now (steps .exit)) ≡ put s (first-progress set s) (tally (now (outcomes .entry)) (now (codes .entry)) (now (steps .entry))) ⌝ }
+    ensures { λ _. ⌜ tally (now (outcomes .exit)) (now (codes .exit)) (now (steps .exit)) ≡ put s (first-progress set s)
+        (tally (now (outcomes .entry)) (now (codes .entry)) (now (steps .entry))) ⌝ }
 {
     let p = Progress {
         outcome: first_outcome(set, s),

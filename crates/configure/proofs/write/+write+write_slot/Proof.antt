@@ -28,7 +28,7 @@ use Rattle.image.proofs.choice.chosen.Reads as chosen-reads
 use Rattle.image.proofs.kinds.is_choice.Reads as is-choice-reads
 use Rattle.image.proofs.kinds.layout.Reads as layout-reads
 use Rattle.image.proofs.kinds.names_node.Reads as names-node-reads
-use Rattle.image.proofs.records.node_at.Reads as node-at-reads
+use Rattle.image.proofs.node_at.Reads as node-at-reads
 use Rattle.configure.proofs.write.+write+write_slot.{statement}
 use Rattle.configure.proofs.write.+write+write_slot.Tie.{close}
 

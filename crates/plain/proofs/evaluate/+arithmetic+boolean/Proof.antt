@@ -13,7 +13,7 @@ use Rattle.plain.proofs.evaluate.+arithmetic+boolean.Lts-arithmetic as 
 use Rattle.plain.proofs.evaluate.boolean.Reads as boolean
 use Rattle.plain.proofs.evaluate.boolean.Kinds as boolean-kinds
 use Rattle.plain.proofs.evaluate.+arithmetic+boolean.Lts-boolean as boolean-lts
-use Rattle.image.proofs.records.node_at.Reads as node-at-reads
+use Rattle.image.proofs.node_at.Reads as node-at-reads
 use Rattle.imp.proofs.less.Reads as less-reads
 use Rattle.imp.proofs.signed.Reads as signed-reads
 use Rattle.imp.proofs.sum.Reads as sum-reads

@@ -22,7 +22,7 @@ use Rattle.plain.proofs.run.+attempt+repeat+run.Lts-repeat as repeat-lt
 use Rattle.plain.proofs.run.run.Reads as run
 use Rattle.plain.proofs.run.run.Kinds as run-kinds
 use Rattle.plain.proofs.run.+attempt+repeat+run.Lts-run as run-lts
-use Rattle.image.proofs.records.node_at.Reads as node-at-reads
+use Rattle.image.proofs.node_at.Reads as node-at-reads
 use Rattle.image.proofs.choice.chosen.Reads as chosen-reads
 use Rattle.plain.proofs.step.assign.Reads as assign-reads
 use Rattle.plain.proofs.step.begin.Reads as begin-reads

@@ -23,7 +23,7 @@ use Rattle.shared.proofs.run.+attempt+both+choose+decide+follow+repeat+
 use Rattle.shared.proofs.run.run.Reads as run
 use Rattle.shared.proofs.run.run.Kinds as run-kinds
 use Rattle.shared.proofs.run.+attempt+both+choose+decide+follow+repeat+run.Lts-run as run-lts
-use Rattle.image.proofs.records.node_at.Reads as node-at-reads
+use Rattle.image.proofs.node_at.Reads as node-at-reads
 use Rattle.sets.proofs.Set.at.Reads as at-reads
 use Rattle.sets.proofs.Set.meet.Reads as meet-reads
 use Rattle.sets.proofs.Set.take_away.Reads as take-away-reads
