@@ -7,7 +7,7 @@ use borrow.Author.Tests.{eqb-true, eq-eqb, ne-eqb}
 use mir.Syntax.{w32}
 use mir.Val.{SFits, ofZ, toZ}
 use mir.Facts.{toZ-ofZ}
-use Rattle.acceptance.specs.Comparing.{same-number}
+use Rattle.acceptance.specs.Inner.Comparing.{same-number}
 use Rattle.acceptance.specs.Theorem.Same.{same-number-is, alike}
 
 pub same-bits : {a b : ℤ} → SFits w32 a → SFits w32 b → ofZ w32 a ≡ ofZ w32 b → a ≡ b

@@ -12,7 +12,7 @@ use Rattle.image.specs.declared.accept.Checked.{Checked}
 use Rattle.image.specs.declared.conditions.ConditionSet.{ConditionSet}
 use Rattle.image.specs.Bytes.{Bytes, over}
 use Rattle.image.specs.Check.{answer-of, shape-of}
-use Rattle.image.specs.Rows.{Row, Answer, refused, answer, judge, written, check-rows, NoneFails, Given}
+use Rattle.image.specs.Rows.{Row, Answer, refused, answer, judge, written, check-rows, NoneFails, Given, numbers, then}
 use Rattle.image.specs.Sets.{settings, in-condition, condition-rows, set-answer}
 use Rattle.configure.specs.declared.Configured.{Configured}
 use Rattle.configure.specs.Configured.{configure-rows, configure-answer, Configures}
@@ -26,7 +26,7 @@ use Rattle.lines.specs.declared.answer.Report.the-variants.{Text, Short}
 use Rattle.lines.specs.Report.{Reports}
 use Rattle.lines.specs.Text.{lines, last-line, refusal-line, set-in, budget-in, image-in, run-of, report-rows, text}
 use Rattle.acceptance.specs.Theorem.ByTable.{refusal-is, carried-is, decided, as-lent}
-use Rattle.acceptance.specs.Theorem.Orders.{numbers, then, check-order, condition-order, configure-order, plain-order, shared-order, report-order}
+use Rattle.acceptance.specs.Theorem.Orders.{check-order, condition-order, configure-order, plain-order, shared-order, report-order}
 use Rattle.acceptance.specs.Theorem.Told.{refusal-exactly, run-told, fits, does-not-fit}
 
 -- a call with the table `rows` was lent `lent`, answered a and left `left`

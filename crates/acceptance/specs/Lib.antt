@@ -1,11 +1,9 @@
--- What holds between the calls, the cases that were checked by hand, and what the program lends.
-pub mod Theorem
+-- What holds between the calls, a file a condition; that no promise leaves two results; and the cases that were checked by hand.
 pub mod ByRules
 pub mod Condition1
 pub mod Condition2
 pub mod Condition3
 pub mod Unique
 pub mod Table
-pub mod Lengths
-pub mod Comparing
-pub mod Expected
+pub mod Inner
+pub mod Theorem

@@ -30,7 +30,8 @@ use Rattle.image.specs.Term.{size, name, node-word, words, bytes-of, all-bytes,
 use Rattle.image.specs.Encode.{termᵃ, termˢ, plain-image}
 use Rattle.configure.specs.declared.Configured.{Configured}
 use Rattle.configure.specs.Configured.{configured, space-rows, configure-rows, configure-answer, Configures}
-use Rattle.configure.specs.Theorem.Vectors.{H, H-1}
+use Rattle.image.specs.Theorem.RoutineH.{H}
+use Rattle.configure.specs.Theorem.Vectors.{H-1}
 use Rattle.plain.specs.declared.progress.Progress.{Progress}
 use Rattle.plain.specs.declared.PlainRun.{PlainRun}
 use Rattle.plain.specs.PlainRun as Plain

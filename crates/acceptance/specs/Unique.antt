@@ -9,7 +9,7 @@ use lib.IntN.{ℤ}
 use lib.ListN.{length, getD}
 use Rattle.sets.specs.declared.Set.{Set}
 use Rattle.sets.specs.declared.Full.{Full}
-use Rattle.sets.specs.Member.{bit, has, members, verdictOf, fullOf}
+use Rattle.sets.specs.Member.{bit, has, members, verdictOf, fullOf, bitsOf, numberOf}
 use Rattle.imp.specs.State.{Numbers}
 use Rattle.image.specs.declared.accept.Checked.{Checked}
 use Rattle.image.specs.declared.conditions.ConditionSet.{ConditionSet}
@@ -77,6 +77,10 @@ pub record Unique : Type 0 where
   pub is-member : (A : Set) (s : ℕ) (r r′ : Bool) → r ≡ has A s → r′ ≡ has A s → r ≡ r′
   pub is-empty : (A : Set) (r r′ : Bool) → r ≡ eqb (members (A .bits) 64) 0 → r′ ≡ eqb (members (A .bits) 64) 0 → r ≡ r′
   pub count : (A : Set) (n n′ : ℕ) → n ≡ members (A .bits) 64 → n′ ≡ members (A .bits) 64 → n ≡ n′
+  -- ---- sets on plain numbers, for the panel: `sets_meet`, `sets_join`, `sets_take_away` and `sets_option` say of each setting whether it is in the answer
+  pub panel : (P : ℕ → Bool) (n n′ : ℕ) → n < 2 ^ 64 → n′ < 2 ^ 64 → ((s : ℕ) → bit n s ≡ P s) → ((s : ℕ) → bit n′ s ≡ P s) → n ≡ n′
+  pub panel-full : (f n n′ : ℕ) → n ≡ bitsOf (fullOf f) → n′ ≡ bitsOf (fullOf f) → n ≡ n′
+  pub panel-full-refusal : (f n n′ : ℕ) → n ≡ numberOf (fullOf f) → n′ ≡ numberOf (fullOf f) → n ≡ n′
 
 pub unique : Unique
 unique = record {
@@ -101,4 +105,7 @@ unique = record {
   is-member = λ A s r r′ e e′. e ∙ sym e′;
   is-empty = λ A r r′ e e′. e ∙ sym e′;
   count = λ A n n′ e e′. e ∙ sym e′;
+  panel = λ P n n′ h h′ e e′. ap (λ (S : Set). S .bits) (one-set P (record { bits = n }) (record { bits = n′ }) h h′ e e′);
+  panel-full = λ f n n′ e e′. e ∙ sym e′;
+  panel-full-refusal = λ f n n′ e e′. e ∙ sym e′;
 }

@@ -1,13 +1,14 @@
 // One setting by itself: the routine configured for it, and the plain run of that.
 ghost use mathlib.Core.Path.{_≡_};
 ghost use Prim.Native.Nat.{_<_};
-ghost use Rattle.acceptance.specs.Comparing.{same-progress, runs-so, agrees, stays};
+ghost use Rattle.acceptance.specs.Inner.Comparing.{same-progress, runs-so, agrees, stays};
 use crate::numbers::fill;
 use crate::numbers::same;
 use configure::Configured;
 use configure::configure;
 use plain::PlainRun;
 use plain::plain_run;
+use plain::progress::IDLE;
 use plain::progress::Progress;
 
 fn equal(p: Progress, q: Progress) -> bool
@@ -49,7 +50,7 @@ pub fn untouched(s: usize, p: Progress, left: &[i32]) -> bool
     let mut numbers = [0i32; 16];
     fill(s * 16, &mut numbers);
     let idle = Progress {
-        outcome: 0,
+        outcome: IDLE,
         code: 0,
         steps: 0,
     };

@@ -2,7 +2,7 @@
 ghost use mathlib.Core.Path.{_≡_};
 ghost use Prim.Native.Nat.{_+_, _≤_};
 ghost use lib.ListN.{length};
-ghost use Rattle.acceptance.specs.Comparing.{same-numbers, first, starts};
+ghost use Rattle.acceptance.specs.Inner.Comparing.{same-numbers, first, starts};
 use imp::signed;
 
 // The number that place k of the store starts with, another one for each place: 0 and -2147483648 in setting 0, -1 and 2147483647 in setting 1.

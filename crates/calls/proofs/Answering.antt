@@ -5,7 +5,7 @@ use mathlib.Core.List.{List}
 use Prim.Native.Nat.{ℕ}
 use lib.ListN.{length}
 use borrow.Author.Tests.{eq-eqb, ne-eqb}
-use Rattle.calls.specs.declared.Reply.{Reply}
+use Rattle.calls.specs.declared.reply.Reply.{Reply}
 use Rattle.calls.specs.Space.{answer-length, where-right, all-numbers, Answers}
 
 module _ (space : List ℕ) where

@@ -11,7 +11,7 @@ use Rattle.image.specs.Check.{shape-of}
 use Rattle.image.specs.Sets.{in-condition, condition-rows}
 use Rattle.configure.specs.Configured.{configured, configure-rows}
 use Rattle.plain.specs.PlainRun.{meant, progress-of, plain-rows}
-use Rattle.calls.specs.declared.Reply.{Reply}
+use Rattle.calls.specs.declared.reply.Reply.{Reply}
 use Rattle.calls.specs.Reply.{values, reply, shape-reply, member-reply, length-reply, progress-reply}
 
 abbrev pub check-reply : Bytes → Reply

@@ -3,3 +3,4 @@ pub mod Reply
 pub mod Calls
 pub mod Space
 pub mod Shared
+pub mod Theorem

@@ -6,7 +6,7 @@ use Rattle.imp.specs.Numbers.{low32}
 use Rattle.plain.specs.declared.progress.Progress.{Progress}
 use Rattle.shared.specs.declared.Ends.{Ends}
 use Rattle.image.specs.Rows.{Answer, refused, answer}
-use Rattle.calls.specs.declared.Reply.{Reply}
+use Rattle.calls.specs.declared.reply.Reply.{Reply}
 
 abbrev pub values : ℕ → ℕ → ℕ → Reply
 values x y z = record { number = 0; place = 0; first = x; second = y; third = z; fourth = 0; fifth = 0; sixth = 0 }

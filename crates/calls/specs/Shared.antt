@@ -9,7 +9,7 @@ use Rattle.image.specs.Rows.{judge, written}
 use Rattle.image.specs.Sets.{settings}
 use Rattle.shared.specs.Lent.{Tally}
 use Rattle.shared.specs.SharedRun.{meant, numbers-of, tally-of, ends-of, shared-rows}
-use Rattle.calls.specs.declared.Reply.{Reply}
+use Rattle.calls.specs.declared.reply.Reply.{Reply}
 use Rattle.calls.specs.Reply.{reply, ends-reply}
 use Rattle.calls.specs.Space.{where-right, Answers}
 

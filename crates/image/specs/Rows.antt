@@ -2,7 +2,7 @@
 use Prim.Native.Nat.{ℕ, zero, suc, _+_, _-_, _*_, _/_, _%_}
 use mathlib.Core.Path.{_≡_}
 use mathlib.Core.Bool.{Bool, true, false, not, _&&_, _||_, cond}
-use mathlib.Core.List.{List, [], _∷_, _++_}
+use mathlib.Core.List.{List, [], _∷_, _++_, map}
 use lib.Dec.{eqb, ltb}
 use lib.ListN.{length}
 use Rattle.image.specs.declared.records.Header.{Header}
@@ -50,6 +50,13 @@ pub record Given (rows : List Row) (n p : ℕ) : Type 0 where
   pub fails : this .fails ≡ true
   pub number-is : this .number ≡ n
   pub place-is : this .place ≡ p
+
+-- the numbers of a table, in order; 1 to 8, and then more
+abbrev pub numbers : List Row → List ℕ
+numbers rows = map (λ (r : Row). r .number) rows
+
+abbrev pub then : List ℕ → List ℕ
+then more = 1 ∷ 2 ∷ 3 ∷ 4 ∷ 5 ∷ 6 ∷ 7 ∷ 8 ∷ more
 
 -- the lowest k below n that is bad, and n where there is none
 unfoldable pub lowest-from : ℕ → ℕ → (ℕ → Bool) → ℕ

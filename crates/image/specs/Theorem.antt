@@ -28,3 +28,4 @@ pub mod Decode
 pub mod RoundTrip
 pub mod One
 pub mod OneTable
+pub mod RoutineH

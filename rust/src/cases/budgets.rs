@@ -43,9 +43,9 @@ pub fn plain_runs() -> impl Iterator<Item = Case> {
     })
 }
 
-/// Shared runs over every set of three routines.
+/// Shared runs over every set of four routines.
 pub fn shared_runs() -> impl Iterator<Item = Case> {
-    let routines = [all_kinds(), case_g(), case_h()];
+    let routines = [all_kinds(), case_g(), case_h(), h()];
     let budgets =
         (0..=MOST).flat_map(|budget| (-20..=20).step_by(5).map(move |first| (budget, first)));
     budgets.flat_map(move |(budget, first)| {
@@ -63,7 +63,7 @@ pub fn shared_runs() -> impl Iterator<Item = Case> {
 
 /// Shared runs to hold against plain runs: every set of the same routines, and many of 64 settings.
 pub fn agreements() -> impl Iterator<Item = Agreement> {
-    let routines = [all_kinds(), case_g(), case_h()];
+    let routines = [all_kinds(), case_g(), case_h(), h()];
     let few = (0..=MOST).flat_map(move |budget| {
         let mut agreements = Vec::new();
         for routine in &routines {

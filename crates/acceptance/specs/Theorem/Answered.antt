@@ -18,8 +18,8 @@ use Rattle.shared.specs.SharedRun as Sharing
 use Rattle.shared.specs.SharedRun.{numbers-of, tally-of, ends-of, exact, set-rows, shared-rows, SharedRuns}
 use Rattle.acceptance.specs.declared.compare.Compared.{Compared}
 use Rattle.acceptance.specs.declared.compare.Verdict.the-variants.{Of, Refused}
-use Rattle.acceptance.specs.Comparing.{starts, judged, compared}
-use Rattle.acceptance.specs.Expected.{compare-rows, verdict, holding, expected}
+use Rattle.acceptance.specs.Inner.Comparing.{starts, judged, compared}
+use Rattle.acceptance.specs.Inner.Expected.{compare-rows, verdict, holding, expected}
 use Rattle.acceptance.specs.Theorem.Rows.{none-each, none-both, written-new}
 use Rattle.acceptance.specs.Theorem.Compared.{shared-ended}
 use Rattle.acceptance.specs.Theorem.Holding.{starts-length, all-true}

@@ -24,7 +24,7 @@ use Rattle.shared.specs.Lent.{Tally}
 use Rattle.shared.specs.SharedRun.{shared-rows, shared-answer, SharedRuns}
 use Rattle.acceptance.specs.declared.compare.Verdict.the-variants.{Of, Refused}
 use Rattle.acceptance.specs.Condition3.{idle}
-use Rattle.acceptance.specs.Comparing.{same-numbers, same-progress, starts, own-start, ended-so, runs-so, of-written, agrees, stays, setting-holds, all-hold, judged, compared}
+use Rattle.acceptance.specs.Inner.Comparing.{same-numbers, same-progress, starts, own-start, ended-so, runs-so, of-written, agrees, stays, setting-holds, all-hold, judged, compared}
 
 -- ---- one setting, of which p and `left` are told
 

@@ -26,7 +26,7 @@ use Rattle.shared.specs.declared.SharedRun.the-variants as Shared
 use Rattle.shared.specs.Lent.{Tally, progress, part}
 use Rattle.shared.specs.SharedRun as Sharing
 use Rattle.shared.specs.SharedRun.{tally-of, ends-of, shared-rows, SharedRuns}
-use Rattle.acceptance.specs.Comparing.{first, starts, own-start, agrees, stays, setting-holds, all-hold}
+use Rattle.acceptance.specs.Inner.Comparing.{first, starts, own-start, agrees, stays, setting-holds, all-hold}
 use Rattle.acceptance.specs.Condition3.{Condition3, condition-3}
 use Rattle.acceptance.specs.Theorem.Rows.{carried, written-new}
 use Rattle.acceptance.specs.Theorem.Left.{each-length, each-at, part-length}

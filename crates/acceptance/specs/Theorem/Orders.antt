@@ -1,24 +1,16 @@
 -- The order of each call's tests, read off its table: "Tests 1 to 8 go in that order", then the call's own.
 use mathlib.Core.Path.{_≡_, refl}
-use mathlib.Core.List.{List, [], _∷_, map}
+use mathlib.Core.List.{List, [], _∷_}
 use Prim.Native.Nat.{ℕ}
 use lib.IntN.{ℤ}
 use Rattle.image.specs.Bytes.{Bytes}
-use Rattle.image.specs.Rows.{Row, check-rows}
+use Rattle.image.specs.Rows.{numbers, then, check-rows}
 use Rattle.image.specs.Sets.{condition-rows}
 use Rattle.configure.specs.Configured.{space-rows, configure-rows}
 use Rattle.plain.specs.PlainRun.{lent-rows, plain-rows}
 use Rattle.shared.specs.Lent.{Tally}
 use Rattle.shared.specs.SharedRun.{set-rows, shared-rows}
 use Rattle.lines.specs.Text.{run-rows, report-rows}
-
--- the numbers of a table, in order
-abbrev pub numbers : List Row → List ℕ
-numbers rows = map (λ (r : Row). r .number) rows
-
--- 1 to 8, and then more
-abbrev pub then : List ℕ → List ℕ
-then more = 1 ∷ 2 ∷ 3 ∷ 4 ∷ 5 ∷ 6 ∷ 7 ∷ 8 ∷ more
 
 pub check-order : (l : Bytes) → numbers (check-rows l) ≡ then []
 unfolding check-rows

@@ -12,7 +12,7 @@ use lib.Seq.{ext-getD}
 use borrow.Author.Tests.{eqb-true, eq-eqb}
 use Rattle.imp.specs.Theorem.Sets.{and-true}
 use Rattle.plain.specs.declared.progress.Progress.{Progress}
-use Rattle.acceptance.specs.Comparing.{same-number, every, same-at, same-numbers, same-progress}
+use Rattle.acceptance.specs.Inner.Comparing.{same-number, every, same-at, same-numbers, same-progress}
 
 -- two tests that are true together
 pub alike : (u v : Bool) → (u ≡ true → v ≡ true) → (v ≡ true → u ≡ true) → u ≡ v

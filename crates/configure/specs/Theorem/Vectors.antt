@@ -14,26 +14,8 @@ use Rattle.image.specs.Rows.{answer, judge, short, edition-wrong, counts-wrong,
 use Rattle.image.specs.Tree.{condition-kind, condition-reading, condition, kind-of, reading, read-below, read, routine}
 use Rattle.image.specs.Term.{size, name, node-word, words, bytes-of, all-bytes, header-word, term-image}
 use Rattle.image.specs.Encode.{termᵃ, termˢ, plain-image}
+use Rattle.image.specs.Theorem.RoutineH.{H}
 use Rattle.configure.specs.Configured.{configured}
-
--- header, condition 0, then nodes 0 to 11
-abbrev pub H : Bytes
-H =
-    1 ∷ 16 ∷ 1 ∷ 0 ∷ 192 ∷ 0 ∷ 0 ∷ 0
-    ∷ 32 ∷ 0 ∷ 0 ∷ 0
-    ∷ 0 ∷ 0 ∷ 0 ∷ 0 ∷ 0 ∷ 0 ∷ 1 ∷ 124
-    ∷ 0 ∷ 0 ∷ 0 ∷ 0 ∷ 0 ∷ 0 ∷ 1 ∷ 54
-    ∷ 16 ∷ 0 ∷ 0 ∷ 0 ∷ 0 ∷ 1 ∷ 0 ∷ 0
-    ∷ 68 ∷ 0 ∷ 2 ∷ 0 ∷ 0 ∷ 0 ∷ 0 ∷ 0
-    ∷ 0 ∷ 0 ∷ 0 ∷ 0 ∷ 0 ∷ 0 ∷ 1 ∷ 94
-    ∷ 4 ∷ 0 ∷ 0 ∷ 0 ∷ 0 ∷ 0 ∷ 0 ∷ 0
-    ∷ 48 ∷ 0 ∷ 4 ∷ 0 ∷ 80 ∷ 0 ∷ 0 ∷ 0
-    ∷ 0 ∷ 0 ∷ 0 ∷ 0 ∷ 0 ∷ 0 ∷ 0 ∷ 7
-    ∷ 84 ∷ 0 ∷ 7 ∷ 0 ∷ 0 ∷ 0 ∷ 0 ∷ 0
-    ∷ 64 ∷ 0 ∷ 0 ∷ 0 ∷ 0 ∷ 0 ∷ 0 ∷ 0
-    ∷ 76 ∷ 0 ∷ 6 ∷ 0 ∷ 128 ∷ 9 ∷ 0 ∷ 0
-    ∷ 72 ∷ 0 ∷ 3 ∷ 0 ∷ 160 ∷ 0 ∷ 0 ∷ 0
-    ∷ []
 
 -- "H configured for setting 1: 10 nodes, 88 bytes, header 01 00 00 00 A0 00 00 00."
 abbrev pub H-1 : Bytes

@@ -13,6 +13,7 @@ use Rattle.image.specs.Records.{nodes-from, header, condition-record, node}
 use Rattle.image.specs.Layout.{kinds, layout, names-node, condition-kinds, condition-layout, field-fits}
 use Rattle.image.specs.Rows.{judge, short, edition-wrong, counts-wrong, length-wrong, lowest, lowest-from, condition-fits, slot-fits, node-fits, class, slot-classed, classed, slot-names, node-names, names, named-wrong, check-rows}
 use Rattle.image.specs.Sets.{settings}
+use Rattle.image.specs.Theorem.RoutineH.{H}
 use Rattle.image.specs.Tree.{condition-kind, condition-reading, condition, kind-of, reading, read-below, read, routine}
 use Rattle.plain.specs.PlainRun.{progress-of}
 use Rattle.shared.specs.Lent.{part}
@@ -20,25 +21,6 @@ use Rattle.shared.specs.SharedRun.{meant, set-of, ends-of, exact, set-rows, sha
 use Rattle.lines.specs.Decimal.{digits, decimal, signed-decimal}
 use Rattle.lines.specs.Words.{outcome-words, word, field}
 use Rattle.lines.specs.Text.{line, lines, last-line, refusal-line, zeros, blank, run-of, run-rows, report-rows, told, text}
-
--- header, condition 0, then nodes 0 to 11
-abbrev pub H : Bytes
-H =
-    1 ∷ 16 ∷ 1 ∷ 0 ∷ 192 ∷ 0 ∷ 0 ∷ 0
-    ∷ 32 ∷ 0 ∷ 0 ∷ 0
-    ∷ 0 ∷ 0 ∷ 0 ∷ 0 ∷ 0 ∷ 0 ∷ 1 ∷ 124
-    ∷ 0 ∷ 0 ∷ 0 ∷ 0 ∷ 0 ∷ 0 ∷ 1 ∷ 54
-    ∷ 16 ∷ 0 ∷ 0 ∷ 0 ∷ 0 ∷ 1 ∷ 0 ∷ 0
-    ∷ 68 ∷ 0 ∷ 2 ∷ 0 ∷ 0 ∷ 0 ∷ 0 ∷ 0
-    ∷ 0 ∷ 0 ∷ 0 ∷ 0 ∷ 0 ∷ 0 ∷ 1 ∷ 94
-    ∷ 4 ∷ 0 ∷ 0 ∷ 0 ∷ 0 ∷ 0 ∷ 0 ∷ 0
-    ∷ 48 ∷ 0 ∷ 4 ∷ 0 ∷ 80 ∷ 0 ∷ 0 ∷ 0
-    ∷ 0 ∷ 0 ∷ 0 ∷ 0 ∷ 0 ∷ 0 ∷ 0 ∷ 7
-    ∷ 84 ∷ 0 ∷ 7 ∷ 0 ∷ 0 ∷ 0 ∷ 0 ∷ 0
-    ∷ 64 ∷ 0 ∷ 0 ∷ 0 ∷ 0 ∷ 0 ∷ 0 ∷ 0
-    ∷ 76 ∷ 0 ∷ 6 ∷ 0 ∷ 128 ∷ 9 ∷ 0 ∷ 0
-    ∷ 72 ∷ 0 ∷ 3 ∷ 0 ∷ 160 ∷ 0 ∷ 0 ∷ 0
-    ∷ []
 
 -- a set and a budget below 256, then the image
 abbrev input : ℕ → ℕ → Bytes → Bytes

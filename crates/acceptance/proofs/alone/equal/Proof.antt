@@ -8,7 +8,7 @@ use borrow.Author.Needs.{needs}
 use mir.Syntax.{w32}
 use mir.Val.{ofZ}
 use Rattle.plain.specs.declared.progress.Progress.{Progress}
-use Rattle.acceptance.specs.Comparing.{same-progress}
+use Rattle.acceptance.specs.Inner.Comparing.{same-progress}
 use Rattle.acceptance.proofs.Bits.{bits-compared}
 use Rattle.acceptance.proofs.alone.equal.Statement.{statement}
 use Rattle.acceptance.proofs.alone.equal.Tie as tie

@@ -1,7 +1,7 @@
 -- `runs_so` meets its contract: the plain run answers and leaves what its promise says.
 use mathlib.Core.Path.{_≡_}
 use Rattle.plain.specs.declared.progress.Progress.{Progress}
-use Rattle.acceptance.specs.Comparing.{own-start}
+use Rattle.acceptance.specs.Inner.Comparing.{own-start}
 use Rattle.acceptance.specs.Theorem.Compared.{run-refused, run-ended}
 use borrow.Author.Needs.{needs}
 use Rattle.acceptance.proofs.alone.runs_so.Statement.{statement}

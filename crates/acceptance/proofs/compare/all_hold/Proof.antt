@@ -14,7 +14,7 @@ use mir.Facts.{toZ-ofZ}
 use Rattle.imp.specs.Shared.{total}
 use Rattle.image.specs.Bytes.{Bytes}
 use Rattle.shared.specs.Lent.{Tally, tally, progress, part}
-use Rattle.acceptance.specs.Comparing.{every, setting-holds, all-hold}
+use Rattle.acceptance.specs.Inner.Comparing.{every, setting-holds, all-hold}
 use Rattle.acceptance.specs.Theorem.Same.{every-next}
 use Rattle.acceptance.proofs.compare.all_hold.Statement.{statement}
 use Rattle.acceptance.proofs.compare.all_hold.Tie as tie

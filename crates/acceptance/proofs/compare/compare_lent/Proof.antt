@@ -5,7 +5,7 @@ use native.Mathlib.Omega.{arith}
 use lib.ListN.{length}
 use Rattle.image.specs.Bytes.{Bytes}
 use Rattle.shared.specs.Lent.{Tally, tally}
-use Rattle.acceptance.specs.Comparing.{starts}
+use Rattle.acceptance.specs.Inner.Comparing.{starts}
 use Rattle.acceptance.specs.Theorem.Compared.{shared-refused, shared-ended}
 use borrow.Author.Needs.{needs}
 use Rattle.acceptance.proofs.compare.compare_lent.Statement.{statement}

@@ -9,7 +9,7 @@ use lib.Seq.{take-all, take-suc-set}
 use borrow.Author.Needs.{needs}
 use mir.Facts.{toZ-ofZ}
 use Rattle.shared.specs.SharedRun.{each}
-use Rattle.acceptance.specs.Comparing.{first, starts}
+use Rattle.acceptance.specs.Inner.Comparing.{first, starts}
 use Rattle.acceptance.proofs.numbers.fill.Statement.{statement}
 use Rattle.acceptance.proofs.numbers.fill.Tie as tie
 

@@ -1,6 +1,6 @@
 -- `first` meets its contract: the sum fits in 64 bits, and what remains of it in 32.
 use borrow.Author.Needs.{needs}
-use Rattle.acceptance.specs.Comparing.{first}
+use Rattle.acceptance.specs.Inner.Comparing.{first}
 use Rattle.acceptance.proofs.numbers.first.Statement.{statement}
 use Rattle.acceptance.proofs.numbers.first.Tie as tie
 

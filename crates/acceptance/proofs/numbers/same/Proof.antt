@@ -7,7 +7,7 @@ use native.Mathlib.Omega.{arith}
 use lib.IntN.{ℤ}
 use lib.ListN.{length}
 use borrow.Author.Tests.{eq-eqb, ne-eqb}
-use Rattle.acceptance.specs.Comparing.{every, same-at, same-numbers}
+use Rattle.acceptance.specs.Inner.Comparing.{every, same-at, same-numbers}
 use Rattle.acceptance.specs.Theorem.Same.{every-false, every-next}
 use Rattle.acceptance.proofs.Bits.{bits-same, bits-differ}
 use borrow.Author.Needs.{needs}

@@ -3,8 +3,8 @@ use mathlib.Core.Path.{sym, _∙_, ap}
 use borrow.Author.Needs.{needs}
 use Rattle.configure.specs.Configured.{configure-answer}
 use Rattle.calls.specs.Reply.{reply, length-reply}
-use Rattle.calls.proofs.written.Statement.{statement}
-use Rattle.calls.proofs.written.Tie as tie
+use Rattle.calls.proofs.asked.written.Statement.{statement}
+use Rattle.calls.proofs.asked.written.Tie as tie
 
 configure-requires : tie.Need-configure-requires
 configure-requires c κs = search needs

@@ -5,8 +5,8 @@ use borrow.Author.Needs.{needs}
 use Rattle.imp.specs.Numbers.{low32}
 use Rattle.plain.specs.declared.progress.Progress.{Progress}
 use Rattle.calls.specs.Reply.{values}
-use Rattle.calls.proofs.progress.Statement.{statement}
-use Rattle.calls.proofs.progress.Tie as tie
+use Rattle.calls.proofs.reply.progress.Statement.{statement}
+use Rattle.calls.proofs.reply.progress.Tie as tie
 
 cast-values : tie.Need-cast-values
 cast-values c = search needs

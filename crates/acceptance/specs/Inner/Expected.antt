@@ -2,20 +2,20 @@
 use mathlib.Core.Bool.{true}
 use mathlib.Core.List.{List, [], _∷_, _++_}
 use Prim.Native.Nat.{ℕ, _*_}
-use lib.Dec.{ltb}
 use Rattle.imp.specs.Shared.{beyond}
 use Rattle.image.specs.Bytes.{Bytes}
 use Rattle.image.specs.Rows.{Row, row, Answer, refused, answer, judge, check-rows}
 use Rattle.image.specs.Sets.{settings}
+use Rattle.plain.specs.PlainRun.{budget-row}
 use Rattle.shared.specs.SharedRun.{meant}
 use Rattle.acceptance.specs.declared.compare.Compared.{Compared}
 use Rattle.acceptance.specs.declared.compare.Verdict.{Verdict}
 use Rattle.acceptance.specs.declared.compare.Verdict.the-variants.{Of, Refused}
-use Rattle.acceptance.specs.Comparing.{starts}
+use Rattle.acceptance.specs.Inner.Comparing.{starts}
 
 -- "shared run 9, 10", after tests 1 to 8; what is lent is made to measure
 unfoldable pub compare-rows : Bytes → ℕ → ℕ → List Row
-compare-rows l set budget = check-rows l ++ (row 9 (beyond (settings l) set) ∷ row 10 (ltb 100000 budget) ∷ [])
+compare-rows l set budget = check-rows l ++ (row 9 (beyond (settings l) set) ∷ budget-row budget ∷ [])
 
 abbrev pub verdict : Answer Compared → Verdict
 verdict (refused n p) = Refused

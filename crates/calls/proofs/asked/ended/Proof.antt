@@ -3,8 +3,8 @@ use mathlib.Core.Path.{sym, _∙_, ap}
 use borrow.Author.Needs.{needs}
 use Rattle.plain.specs.PlainRun.{plain-answer}
 use Rattle.calls.specs.Reply.{reply, progress-reply}
-use Rattle.calls.proofs.ended.Statement.{statement}
-use Rattle.calls.proofs.ended.Tie as tie
+use Rattle.calls.proofs.asked.ended.Statement.{statement}
+use Rattle.calls.proofs.asked.ended.Tie as tie
 
 plain-run-requires : tie.Need-plain-run-requires
 plain-run-requires c κs = search needs

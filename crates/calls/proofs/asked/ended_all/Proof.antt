@@ -8,11 +8,11 @@ use Rattle.image.specs.Bytes.{Bytes}
 use Rattle.shared.specs.declared.SharedRun.{SharedRun}
 use Rattle.shared.specs.Lent.{Tally}
 use Rattle.shared.specs.SharedRun.{shared-answer, shared-rows, SharedRuns}
-use Rattle.calls.specs.declared.Reply.{Reply}
+use Rattle.calls.specs.declared.reply.Reply.{Reply}
 use Rattle.calls.specs.Reply.{reply, ends-reply}
 use Rattle.calls.specs.Shared.{reply-all, store-left, tally-left, EndedAll}
-use Rattle.calls.proofs.ended_all.Statement.{statement}
-use Rattle.calls.proofs.ended_all.Tie as tie
+use Rattle.calls.proofs.asked.ended_all.Statement.{statement}
+use Rattle.calls.proofs.asked.ended_all.Tie as tie
 
 told : {l : Bytes} {set budget : ℕ} {xs xs′ : List ℤ} {T T′ : Tally} {r : SharedRun} {y : Reply}
     → SharedRuns (shared-rows l set budget xs T) l set budget xs T xs′ T′ r → y ≡ reply ends-reply (shared-answer r) → EndedAll l set budget xs T xs′ T′ y

@@ -3,8 +3,8 @@ use mathlib.Core.Path.{sym, _∙_, ap}
 use borrow.Author.Needs.{needs}
 use Rattle.image.specs.Check.{answer-of}
 use Rattle.calls.specs.Reply.{reply, shape-reply}
-use Rattle.calls.proofs.checked.Statement.{statement}
-use Rattle.calls.proofs.checked.Tie as tie
+use Rattle.calls.proofs.asked.checked.Statement.{statement}
+use Rattle.calls.proofs.asked.checked.Tie as tie
 
 check-requires : tie.Need-check-requires
 check-requires c κs = search needs

@@ -6,8 +6,8 @@ use mir.Val.{boolByte}
 use borrow.Author.Needs.{needs}
 use Rattle.image.specs.Sets.{set-answer}
 use Rattle.calls.specs.Reply.{values, reply, member-reply}
-use Rattle.calls.proofs.member.Statement.{statement}
-use Rattle.calls.proofs.member.Tie as tie
+use Rattle.calls.proofs.asked.member.Statement.{statement}
+use Rattle.calls.proofs.asked.member.Tie as tie
 
 condition-set-requires : tie.Need-condition-set-requires
 condition-set-requires c κs = search needs

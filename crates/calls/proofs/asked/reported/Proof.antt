@@ -9,11 +9,11 @@ use Rattle.image.specs.Bytes.{Bytes}
 use Rattle.lines.specs.declared.answer.Report.{Report}
 use Rattle.lines.specs.declared.answer.Report.the-variants.{Text, Short}
 use Rattle.lines.specs.Report.{Reports}
-use Rattle.calls.specs.declared.Reply.{Reply}
+use Rattle.calls.specs.declared.reply.Reply.{Reply}
 use Rattle.calls.specs.Reply.{values}
 use Rattle.calls.specs.Calls.{text-reply, text-left}
-use Rattle.calls.proofs.reported.Statement.{statement}
-use Rattle.calls.proofs.reported.Tie as tie
+use Rattle.calls.proofs.asked.reported.Statement.{statement}
+use Rattle.calls.proofs.asked.reported.Tie as tie
 
 abbrev in-numbers : Report → Reply
 in-numbers (Text n) = values n 0 0

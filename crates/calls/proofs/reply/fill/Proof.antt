@@ -7,8 +7,8 @@ use lib.ListN.{length, drop}
 use lib.Seq.{sets, sets-eq, lt-length-sets, drop-length}
 use borrow.Author.Needs.{needs}
 use Rattle.calls.specs.Space.{all-numbers}
-use Rattle.calls.proofs.fill.Statement.{statement}
-use Rattle.calls.proofs.fill.Tie as tie
+use Rattle.calls.proofs.reply.fill.Statement.{statement}
+use Rattle.calls.proofs.reply.fill.Tie as tie
 
 -- stores into the whole of a space leave nothing of it
 all-of : (vs l : List ℕ) → length vs ≡ length l → sets l 0 vs ≡ vs

@@ -1,7 +1,7 @@
 -- `refused` meets its contract: the refusal's number and place, as `image` gives them.
 use borrow.Author.Needs.{needs}
-use Rattle.calls.proofs.refused.Statement.{statement}
-use Rattle.calls.proofs.refused.Tie as tie
+use Rattle.calls.proofs.reply.refused.Statement.{statement}
+use Rattle.calls.proofs.reply.refused.Tie as tie
 
 number-requires : tie.Need-number-requires
 number-requires c κs = search needs

@@ -1,0 +1,2 @@
+-- What is proved of the calls for C.
+pub mod Unique
