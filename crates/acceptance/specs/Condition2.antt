@@ -110,7 +110,7 @@ condition-2 = record {
         ends = Rules.progress-shown ran (w .0) (w .1);
         in-fault = in-fault ran;
         is-out = is-out ran;
-        agrees = Rules.rules-agree ran (w .0) (w .1);
+        agrees = Rules.world-agrees ran (w .0) (w .1);
       };
   reads-back = λ l s out out′ n wrote. record {
     nodes = Back.nodes l s out out′ wrote;

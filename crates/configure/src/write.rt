@@ -111,26 +111,10 @@ pub fn write(
         return write(image, conditions, sets, s, part, at, out);
     }
     let digits = layout(node.kind);
-    let after_a = write_slot(
-        image,
-        conditions,
-        sets,
-        s,
-        digits / OF_A % 8,
-        node.a,
-        at,
-        out,
-    );
-    let after_b = write_slot(
-        image,
-        conditions,
-        sets,
-        s,
-        digits / OF_B % 8,
-        node.b,
-        after_a,
-        out,
-    );
+    let slot_a = digits / OF_A % 8;
+    let slot_b = digits / OF_B % 8;
+    let after_a = write_slot(image, conditions, sets, s, slot_a, node.a, at, out);
+    let after_b = write_slot(image, conditions, sets, s, slot_b, node.b, after_a, out);
     let after_c = write_slot(image, conditions, sets, s, digits % 8, node.c, after_b, out);
     let own = own_word(node, after_a, after_b, after_c);
     put(out, 8 + 8 * after_c, own);

@@ -49,6 +49,7 @@ pub record State : Type 0 where
   pub outcome : Outcome
   pub steps : ℕ
 
+-- a state written out
 abbrev pub state : Numbers → Outcome → ℕ → State
 state S E k = record { numbers = S; outcome = E; steps = k }
 

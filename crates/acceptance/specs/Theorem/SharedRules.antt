@@ -56,10 +56,10 @@ module _ {l : Bytes} {set budget : ℕ} {xs xs′ : List ℤ} {T T′ : Tally} {
     numbers-shown s h = Run.numbers-left ran s h ∙ ap (λ (σ : State). σ .numbers) (state-is s)
 
     -- in a setting of the set, what the world shows is what the rules of chapter 4 say of the configured routine
-    pub rules-agree : (s : ℕ) → bit set s ≡ true
+    pub world-agrees : (s : ℕ) → bit set s ≡ true
         → ByImp budget (configure s (routine l)) (part xs s) ((Y .store) s) (says (bit set) Y s)
     unfolding progress-of conf ended
-    rules-agree s i =
+    world-agrees s i =
         let end-is = sym (Run.inside-is ran s i) ∙ state-is s in
         subst₂ (ByImp budget (configure s (routine l)) (part xs s)) (ap (λ (σ : State). σ .numbers) end-is) (ap progress-of end-is)
         (imp-ends budget (configure s (routine l)) (part xs s))

@@ -27,4 +27,3 @@ pub record Turn (l : Bytes) (k full : ℕ) (sets : List ℕ) : Type 0 where
   pub fits : condition-fits (header l .options) k (condition-record l k) ≡ true
   pub full-is : (s : ℕ) → bit full s ≡ ltb s (settings l)
   pub before : SetsOf l k sets
-  pub kept : k ≤ length sets

@@ -162,20 +162,23 @@ module _ (t : ℕ) (c : write-lts.After-layout (write-uses t) (write-at t) write
 write-write-slot-requires : (t : ℕ) → write-lts.Need-write-slot-requires (write-uses t) (write-at t) write.Post
 write-write-slot-requires t c κs =
     let digits = c .before in
-    child t digits (slots t digits .a-lower) (omega (arith, slots t digits .size-is)) refl
+    let parts = slots t digits in
+    child t digits (search needs) (omega (arith, parts .size-is)) refl
 
 write-write-slot-requires-2 : (t : ℕ) → write-lts.Need-write-slot-requires-2 (write-uses t) (write-at t) write.Post
 write-write-slot-requires-2 t c κs =
     let digits = c .before .before .before .before .before in
+    let parts = slots t digits in
     let a = c .before .before .before .write-slot in
-    child t digits (slots t digits .b-lower) (omega (arith, slots t digits .size-is, a .ensures .next-is)) (search needs)
+    child t digits (search needs) (omega (arith, parts .size-is, a .ensures .next-is)) (search needs)
 
 write-write-slot-requires-3 : (t : ℕ) → write-lts.Need-write-slot-requires-3 (write-uses t) (write-at t) write.Post
 write-write-slot-requires-3 t c κs =
     let digits = c .before .before .before .before .before .before .before .before .before in
+    let parts = slots t digits in
     let a = c .before .before .before .before .before .before .before .write-slot in
     let b = c .before .before .before .write-slot2 in
-    child t digits (slots t digits .c-lower) (omega (arith, slots t digits .size-is, a .ensures .next-is, b .ensures .next-is)) (search needs)
+    child t digits (search needs) (omega (arith, parts .size-is, a .ensures .next-is, b .ensures .next-is)) (search needs)
 
 -- the children are written
 module _ (t : ℕ) (c : write-lts.After-write-slot3 (write-uses t) (write-at t) write.Post) where

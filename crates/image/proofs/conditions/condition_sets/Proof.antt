@@ -78,7 +78,6 @@ set-of-requires c κs =
       fits = start .pre .0 .conditions-fit (loop .k) (omega (arith, conditions-are start));
       full-is = λ s. c .before .before .before .all-settings .ensures s ∙ ap (λ f. ltb s (2 ^ f)) (options-are start);
       before = loop .inv .1 .sets-are;
-      kept = omega (arith, loop .inv .1 .length-is, conditions-are start, start .pre .0 .few-conditions);
     }
 
 below-256 : (c : tie.After-set-of Inv-loop μ-loop) → c .before .before .before .loop .k < 256
