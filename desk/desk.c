@@ -1,9 +1,9 @@
-/* An example for programs in C: the overheat routine checked, run in all its settings at once, and once more in setting 3 alone. From the repository's folder:
+/* An example for programs in C: the overheat routine read from its written form and listed back, checked, run in all its settings at once, and once more in
+   setting 3 alone. From the repository's folder:
      rt staticlib calls
      gcc -std=c11 -Iinclude -o target/desk desk/desk.c target/staticlib/libcalls.a && target/desk
    (.ci/c-run calls desk/desk.c does this, and on Arm cross-compiles and emulates.) It ends with status 1 where an answer is not the one it must be. */
 #include "bench.h"
-#include <ctype.h>
 #include <stdio.h>
 #include <stdlib.h>
 #include <string.h>
@@ -18,21 +18,36 @@ static void must(bool good, const char *what, const size_t *answer) {
     exit(1);
 }
 
-/* A routine of routines/: hexadecimal digits, and comments from # to the end of the line. */
-static size_t read_routine(const char *name, uint8_t *image) {
+/* A file's text, and its length. */
+static size_t load(const char *name, uint8_t *text, size_t space) {
     FILE *file = fopen(name, "r");
-    size_t digits = 0;
     if (!file) perror(name), exit(1);
-    for (int c; (c = fgetc(file)) != EOF;) {
-        if (c == '#')
-            while (c != '\n' && c != EOF) c = fgetc(file);
-        if (!isxdigit(c) || digits == 2 * BENCH_LONGEST_IMAGE) continue;
-        unsigned digit = isdigit(c) ? c - '0' : toupper(c) - 'A' + 10;
-        image[digits / 2] = digits % 2 ? image[digits / 2] << 4 | digit : digit;
-        digits++;
-    }
+    size_t length = fread(text, 1, space, file);
     fclose(file);
-    return digits / 2;
+    return length;
+}
+
+/* A routine of routines/ read into an image, and listed back: they are kept as they are listed. */
+static size_t read_routine(const char *name, uint8_t *image) {
+    static uint8_t text[BENCH_LONGEST_LISTING], listed[BENCH_LONGEST_LISTING];
+    size_t answer[BENCH_ANSWER] = {0}, length = load(name, text, sizeof text);
+    bool answered = bench_read(text, length, image, BENCH_LONGEST_IMAGE, answer, BENCH_ANSWER);
+    must(answered && answer[BENCH_NUMBER] == 0, name, answer);
+    size_t bytes = answer[BENCH_LENGTH];
+    answered = bench_list(image, bytes, listed, sizeof listed, answer, BENCH_ANSWER);
+    must(answered && answer[BENCH_NUMBER] == 0 && answer[BENCH_LENGTH] == length, "the listing", answer);
+    must(memcmp(text, listed, length) == 0, "the text that was read, listed", answer);
+    printf("%s: %zu bytes of text, an image of %zu bytes\n", name, length, bytes);
+    return bytes;
+}
+
+/* A text that is not of the grammar is refused at the byte from which it cannot go on. */
+static void refused_text(void) {
+    const char *text = "options 0 throw 07";
+    uint8_t image[BENCH_LONGEST_IMAGE];
+    size_t answer[BENCH_ANSWER] = {0};
+    bool answered = bench_read((const uint8_t *)text, strlen(text), image, sizeof image, answer, BENCH_ANSWER);
+    must(answered && answer[BENCH_NUMBER] == BENCH_TEXT_WRONG && answer[BENCH_PLACE] == 17, "a leading zero", answer);
 }
 
 int main(void) {
@@ -41,6 +56,8 @@ int main(void) {
     static uint8_t outcomes[MOST_SETTINGS];
     static uint32_t steps[MOST_SETTINGS];
     size_t answer[BENCH_ANSWER] = {0};
+    must(read_routine("routines/h.txt", image) == 108, "the length of H", answer);
+    refused_text();
     size_t length = read_routine("routines/overheat.txt", image);
 
     bool answered = bench_check(image, length, answer, BENCH_ANSWER);

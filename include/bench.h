@@ -1,9 +1,9 @@
 /* The guard bench for programs in C: a check of a routine image, the settings of a condition, a routine configured for one setting, a plain run, a run
-   over a set of settings, and the report. Link with target/staticlib/libcalls.a (rt staticlib calls). desk/desk.c is an example. crates/calls/src/lib.rt says
+   over a set of settings, the report, and a routine's written form read and listed. Link with target/staticlib/libcalls.a (rt staticlib calls). desk/desk.c is an example. crates/calls/src/lib.rt says
    what each call is proved to do.
 
    What is lent to a call is a pointer and the number of elements behind it. No two slices of one call may overlap. Besides that a call asks nothing of its
-   caller: every image, set, budget and length gets an answer, and no call relies on an earlier one.
+   caller: every image, text, set, budget and length gets an answer, and no call relies on an earlier one.
 
    Every call returns whether it answered. It does so exactly where the answer space has BENCH_ANSWER numbers; else it returns false, and nothing that was
    lent is changed. An answer is a number, a place and six values:
@@ -36,7 +36,8 @@ enum {
     /* of bench_condition_has: 1 or 0 */
     BENCH_HAS = 2,
 
-    /* of bench_configure: how many bytes are written; of bench_report: how many bytes the text has, and 1 where that is more than the space */
+    /* of bench_configure, bench_read and bench_list: how many bytes are written; of bench_report: how many bytes the text has, and 1 where that is more
+       than the space */
     BENCH_LENGTH = 2,
     BENCH_TOO_LONG = 3,
 
@@ -54,7 +55,7 @@ enum {
 /* How a setting ends. */
 enum bench_outcome { BENCH_IDLE = 0, BENCH_DONE = 1, BENCH_FAULT = 2, BENCH_OUT = 3 };
 
-/* Why a call is refused: document 01's table. The place is 0 where no other is named. */
+/* Why a call is refused: the table of documents 01 and 02. The place is 0 where no other is named. */
 enum bench_refusal {
     BENCH_IMAGE_SHORT = 1,       /* image under 8 bytes */
     BENCH_EDITION_WRONG = 2,     /* edition not 1, or header zero bits set */
@@ -69,13 +70,15 @@ enum bench_refusal {
     BENCH_SETTING_BEYOND = 11,   /* setting at or above N */
     BENCH_LENT_WRONG = 12,       /* store (16N, in a plain run 16), outcomes, codes or steps (N each) not of exact length */
     BENCH_CHOICE_HELD = 13,      /* plain run of an image that holds a choice; place: the lowest choice */
-    BENCH_SPACE_SHORT = 14,      /* output space shorter than the configured image */
+    BENCH_SPACE_SHORT = 14,      /* output space shorter than the configured image, the image read or the text listed */
     BENCH_CONDITION_BEYOND = 15, /* condition number not below C */
-    BENCH_INPUT_SHORT = 16       /* report input under 12 bytes; the report's text says so, no answer does */
+    BENCH_INPUT_SHORT = 16,      /* report input under 12 bytes; the report's text says so, no answer does */
+    BENCH_TEXT_WRONG = 17,       /* text not of the grammar; place: the first byte from which no continuation fits, its length where it stops short */
+    BENCH_TOO_MANY = 18          /* node 1,025 or condition 257; place: the first byte of the word, number or bracket that opens it, of bench_list 0 */
 };
 
-/* Sizes that are always enough: the longest image, and the longest text of a report. */
-enum { BENCH_LONGEST_IMAGE = 9224, BENCH_LONGEST_REPORT = 2112 };
+/* Sizes that are always enough: the longest image, the longest text of a report, and the longest listing. */
+enum { BENCH_LONGEST_IMAGE = 9224, BENCH_LONGEST_REPORT = 2112, BENCH_LONGEST_LISTING = 124692 };
 
 /* Refusals 1 to 8. Values: BENCH_OPTIONS, BENCH_CONDITIONS, BENCH_NODES (F, C and P). */
 bool bench_check(const uint8_t *image, size_t image_length, size_t *answer, size_t answer_length);
@@ -99,6 +102,14 @@ bool bench_shared_run(const uint8_t *image, size_t image_length, uint64_t set, u
 /* Writes the report from the start of out, where it fits; else out stays as it was. The input is the set in 8 bytes and the budget in 4, most significant
    first, then the image. Its number is always 0: a refusal is the report's text. Values: BENCH_LENGTH, BENCH_TOO_LONG. */
 bool bench_report(const uint8_t *input, size_t input_length, uint8_t *out, size_t out_length, size_t *answer, size_t answer_length);
+
+/* Reads a routine in the written form, a text of any length, and writes its image from the start of out; bytes beyond it stay as they were. Refusals 17 and
+   18, the earlier place of the two, then 14. Value: BENCH_LENGTH. */
+bool bench_read(const uint8_t *text, size_t text_length, uint8_t *out, size_t out_length, size_t *answer, size_t answer_length);
+
+/* Writes the written form of an image from the start of out, laid out in lines and each condition written out at its choice; bytes beyond it stay as they
+   were. There is one text for each tree, and bench_read gives the tree back. Refusals 1 to 8, 18, 14. Value: BENCH_LENGTH. */
+bool bench_list(const uint8_t *image, size_t image_length, uint8_t *out, size_t out_length, size_t *answer, size_t answer_length);
 
 #ifdef __cplusplus
 }

@@ -1,14 +1,17 @@
-# What makes bytes of the shipped routines, for scripts that stand at the root and read this file with `. routines/bytes.sh`.
+# What makes bytes of routines, for scripts that stand at the root and read this file with `. routines/bytes.sh`. The program `reader` must be built.
 
-# the names of the routines, one a line
+# the names of the shipped routines, one a line
 routines() { for file in routines/*.txt; do basename "$file" .txt; done; }
 
-# digits ROUTINE: the hexadecimal digits of its image, without what stands behind a #
-digits() { sed 's/#.*//' "routines/$1.txt" | tr -d '[:space:]'; }
+# digits ROUTINE: the hexadecimal digits of its image
+digits() { $(.ci/x86) target/bin/reader <"routines/$1.txt" | hex; }
 
-# all ROUTINE: the set of all 2^F settings; F, the number of options, is the third digit of the image
+# hex: the hexadecimal digits of standard input
+hex() { xxd -p | tr -d '\n'; }
+
+# all DIGITS: the set of all 2^F settings of an image; F, the number of options, is its third digit
 all() {
-    options=$(digits "$1" | cut -c3)
+    options=$(printf %s "$1" | cut -c3)
     printf '0x%x\n' $(((2 << ((1 << 0x${options:-0}) - 1)) - 1))
 }
 

@@ -1,10 +1,10 @@
-//! A call of the bench: its numbers, the bytes of every slice lent to it, and what document 01 says they become.
+//! A call of the bench: its numbers, the bytes of every slice lent to it, and what documents 01 and 02 say they become.
 
 use crate::answer::{to_bytes, to_numbers, After, ANSWER};
 use crate::paper::check::{check, lowest_choice, refuse_at, refuse_if, Refusal};
 use crate::paper::conditions::{condition_sets, has, set_of, settings};
 use crate::paper::shared::State;
-use crate::paper::{configure, plain, report, shared, tree};
+use crate::paper::{configure, lister, plain, reader, report, shared, tree};
 
 #[derive(Clone, Copy, Debug)]
 pub enum Call {
@@ -14,6 +14,8 @@ pub enum Call {
     PlainRun { budget: u32 },
     SharedRun { set: u64, budget: u32 },
     Report,
+    Read,
+    List,
     Meet(u64, u64),
     Join(u64, u64),
     TakeAway(u64, u64),
@@ -24,7 +26,7 @@ pub enum Call {
     Option(u64, u32),
 }
 
-/// Slices: the image (of the report its input), then out; or the numbers; or store, outcomes, codes and steps; and last the answer. A call of
+/// Slices: the image (of the report its input, of the reader the text), then out; or the numbers; or store, outcomes, codes and steps; and last the answer. A call of
 /// the sets has one slice, for its result. Numbers in slices are little-endian.
 #[derive(Clone)]
 pub struct Case {
@@ -70,6 +72,8 @@ impl Case {
             Call::PlainRun { budget } => plain_run(image, budget, &mut after[1]),
             Call::SharedRun { set, budget } => shared_run(image, set, budget, &mut after[1..5]),
             Call::Report => Ok(reported(image, &mut after[1])),
+            Call::Read => written(reader::read(image)?, &mut after[1]),
+            Call::List => written(lister::list(image)?.into_bytes(), &mut after[1]),
             _ => check(image).map(|image| {
                 let header = image.header;
                 [header.options, header.conditions, header.nodes].map(|n| n as u64)
@@ -105,6 +109,11 @@ fn configured(image: &[u8], setting: u64, out: &mut [u8]) -> Three {
     let image = check(image)?;
     refuse_if(setting >= settings(image.header.options), 11)?;
     let bytes = configure::configure(&image, &condition_sets(&image), setting);
+    written(bytes, out)
+}
+
+/// From the start of `out`, where there is space for all of it.
+fn written(bytes: Vec<u8>, out: &mut [u8]) -> Three {
     refuse_if(out.len() < bytes.len(), 14)?;
     out[..bytes.len()].copy_from_slice(&bytes);
     Ok([bytes.len() as u64, 0, 0])

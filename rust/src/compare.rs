@@ -3,7 +3,7 @@
 use crate::agreement::Agreement;
 use crate::answer::After;
 use crate::call::Case;
-use crate::cases::{every, random::Random, round};
+use crate::cases::{every, random::Random, round, written};
 use crate::server::{guarded, Server};
 use crate::tally::Tally;
 
@@ -57,6 +57,24 @@ impl Bench {
             self.agree(&batch)?;
         }
         Ok(())
+    }
+
+    /// The same of reading and listing.
+    pub fn every_written(&mut self) -> Result<(), Stop> {
+        let mut cases = written::every(self.seed).peekable();
+        while cases.peek().is_some() {
+            let batch: Vec<Case> = cases.by_ref().take(CASES / 4).collect();
+            self.ask(&batch)?;
+        }
+        Ok(())
+    }
+
+    pub fn written_batch(&mut self) -> Result<(), Stop> {
+        let rounds = self.rounds..self.rounds + ROUNDS;
+        let of = |number| written::round(&mut Random::new(self.seed, number));
+        let cases: Vec<Case> = rounds.flat_map(of).collect();
+        self.rounds += ROUNDS;
+        self.ask(&cases).map(|_| ())
     }
 
     /// Each round has random numbers of its own, so a round does not depend on the rounds before it.

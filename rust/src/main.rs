@@ -1,5 +1,5 @@
-//! Compares the proved bench with document 01 written once more: `guard-bench-again SEED CASES COMMAND...`, with so many
-//! random cases after those that are always tried; the command starts the server that has the bench.
+//! Compares the proved bench with documents 01 and 02 written once more: `guard-bench-again SEED CASES COMMAND...`, with so many
+//! random cases, and as many of the written form, after those that are always tried; the command starts the server that has the bench.
 
 mod agreement;
 mod answer;
@@ -11,6 +11,10 @@ mod compare;
 mod paper;
 mod server;
 mod tally;
+#[cfg(test)]
+mod viable;
+#[cfg(test)]
+mod written_by_hand;
 
 use compare::{Bench, Stop};
 use server::Server;
@@ -54,6 +58,11 @@ fn run(words: &[String]) -> Result<String, Stop> {
     let random = bench.compared + wanted;
     while bench.compared < random {
         bench.batch()?;
+    }
+    bench.every_written()?;
+    let random = bench.compared + wanted;
+    while bench.compared < random {
+        bench.written_batch()?;
     }
     bench.end()
 }

@@ -112,5 +112,7 @@ fn request(call: Call) -> (u8, u64, u64) {
         Call::FullRefusal(f) => (11, u64::from(f), 0),
         Call::Option(full, k) => (12, full, u64::from(k)),
         Call::Report => (13, 0, 0),
+        Call::Read => (14, 0, 0),
+        Call::List => (15, 0, 0),
     }
 }

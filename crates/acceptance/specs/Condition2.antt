@@ -23,6 +23,12 @@ use Rattle.image.specs.Check.{answer-of, shape-of}
 use Rattle.image.specs.Rows.{judge, check-rows}
 use Rattle.image.specs.Sets.{settings}
 use Rattle.image.specs.Tree.{routine}
+use Rattle.reading.specs.declared.write.ReadText.{ReadText}
+use Rattle.reading.specs.declared.write.ReadText.the-variants as Reader
+use Rattle.reading.specs.Reads.{ReadsText}
+use Rattle.listing.specs.declared.Listed.{Listed}
+use Rattle.listing.specs.declared.Listed.the-variants as Lister
+use Rattle.listing.specs.Lists.{listing-of, list-rows, Lists}
 use Rattle.configure.specs.declared.Configured.{Configured}
 use Rattle.configure.specs.declared.Configured.the-variants.{Length}
 use Rattle.configure.specs.Configured.{configure-rows, Configures}
@@ -34,11 +40,15 @@ use Rattle.shared.specs.declared.SharedRun.the-variants as Shared
 use Rattle.shared.specs.Lent.{Tally, progress, part}
 use Rattle.shared.specs.SharedRun.{shared-rows, SharedRuns}
 use Rattle.acceptance.specs.ByRules.{says, ByImp}
+use Rattle.acceptance.specs.WrittenForm.{ReadsAs, ListsAs}
 use Rattle.acceptance.specs.Theorem.Answer.{in-fault, is-out}
 use Rattle.acceptance.specs.Theorem.Configured.{beyond-kept}
 use Rattle.acceptance.specs.Theorem.PlainRules.{plain-image, by-imp, by-imp-only}
 use Rattle.acceptance.specs.Theorem.ReadBack as Back
 use Rattle.acceptance.specs.Theorem.SharedRules as Rules
+use Rattle.acceptance.specs.Theorem.TextRead as Read
+use Rattle.acceptance.specs.Theorem.TextBack as Text
+use Rattle.acceptance.specs.Theorem.ThroughText.{through-text}
 
 -- a plain run of the image l from the numbers ns answered p and left ns′
 pub record PlainFollows (l : Bytes) (budget : ℕ) (ns ns′ : Numbers) (p : Progress) : Type 0 where
@@ -80,6 +90,10 @@ pub record ReadsBack (l : Bytes) (s : ℕ) (out out′ : Bytes) (n : ℕ) : Type
   -- "configuring it again, for setting 0, gives the same bytes", wherever there is space for them
   pub again : (out₂ out₂′ : Bytes) (r : Configured) → n ≤ length out₂
       → Configures (configure-rows (take n out′) 0 (length out₂)) (take n out′) 0 out₂ out₂′ r → (r ≡ Length n) × (take n out₂′ ≡ take n out′)
+  -- listed, and the text read, it is itself byte for byte, wherever there is space for the text and for it
+  pub through-text : (text text′ out₂ out₂′ : Bytes) (r : Listed) (q : ReadText) → let k : ℕ = length (listing-of (take n out′)) in
+      k ≤ length text → n ≤ length out₂ → Lists (list-rows (take n out′) (length text)) (take n out′) text text′ r → ReadsText (take k text′) out₂ out₂′ q
+      → (r ≡ Lister.Length k) × (q ≡ Reader.Length n) × (take n out₂′ ≡ take n out′)
   -- "Bytes beyond it stay as they were."
   pub beyond : drop n out′ ≡ drop n out
 
@@ -95,6 +109,9 @@ pub record Condition2 : Type 0 where
       → Configures (configure-rows l s (length out)) l s out out′ (Length n)
       → Configures (configure-rows l₂ s₂ (length out₂)) l₂ s₂ out₂ out₂′ (Length n₂)
       → (take n out′ ≡ take n₂ out₂′) ↔ (configure s (routine l) ≡ configure s₂ (routine l₂))
+  -- a text that is read, and an image that is listed
+  pub read : (text out out′ : Bytes) (n : ℕ) → ReadsText text out out′ (Reader.Length n) → ReadsAs text out out′ n
+  pub list : (l out out′ : Bytes) (n : ℕ) → Lists (list-rows l (length out)) l out out′ (Lister.Length n) → ListsAs l out out′ n
 
 pub condition-2 : Condition2
 condition-2 = record {
@@ -118,7 +135,24 @@ condition-2 = record {
     passes = Back.passes l s out out′ wrote;
     tree-is = Back.tree-is l s out out′ wrote;
     again = Back.again-is l s out out′ wrote;
+    through-text = through-text l s out out′ wrote;
     beyond = beyond-kept l s out out′ wrote;
   };
   equal = λ l l₂ s s₂ out out′ out₂ out₂′ n n₂ wrote wrote₂. Back.equal l l₂ s s₂ out out′ out₂ out₂′ wrote wrote₂;
+  read = λ text out out′ n done. let w = Read.wrote text out out′ done in record {
+    F = w .F;
+    tree = w .tree;
+    reads = w .holds .reads;
+    only = Read.only text out out′ done;
+    passes = Read.passes text out out′ done;
+    tree-is = Read.tree-is text out out′ done;
+    bytes-are = Read.image-is text out out′ done;
+    beyond = Read.beyond text out out′ done;
+  };
+  list = λ l out out′ n told. record {
+    text-is = Text.spelled l out out′ told;
+    gives-back = Text.gives-back l out out′ told;
+    again = λ out₂ out₂′ out₃ out₃′ m r read. Text.again l out out′ told out₂ out₂′ read out₃ out₃′ r;
+    beyond = Text.beyond l out out′ told;
+  };
 }

@@ -1,5 +1,6 @@
 -- What holds between the calls, a file a condition; that no promise leaves two results; and the cases that were checked by hand.
 pub mod ByRules
+pub mod WrittenForm
 pub mod Condition1
 pub mod Condition2
 pub mod Condition3

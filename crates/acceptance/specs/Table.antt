@@ -26,7 +26,7 @@ use Rattle.image.specs.Layout.{kinds, layout, names-node, is-choice, condition-
 use Rattle.image.specs.Rows.{Answer, refused, answer, judge, written, short, edition-wrong, counts-wrong, length-wrong, lowest, lowest-from, condition-fits, slot-fits, node-fits, class, slot-classed, classed, slot-names, node-names, names, named-wrong, check-rows}
 use Rattle.image.specs.Sets.{settings, in-condition, condition-rows, set-answer}
 use Rattle.image.specs.Tree.{condition-kind, condition-reading, condition-below, condition, kind-of, reading, read-below, read, routine}
-use Rattle.image.specs.Term.{size, name, node-word, words, bytes-of, all-bytes, header-word, term-image}
+use Rattle.image.specs.Term.{size, name, head-word, node-word, words, bytes-of, all-bytes, term-image}
 use Rattle.image.specs.Encode.{termᵃ, termˢ, plain-image}
 use Rattle.configure.specs.declared.Configured.{Configured}
 use Rattle.configure.specs.Configured.{configured, space-rows, configure-rows, configure-answer, Configures}
@@ -164,7 +164,7 @@ unfolding digit bit on-in holds Imp.configure configureᵃ low32 signed32 wrap o
     value Plainly.begun Plainly.turns handled run Plainly.plain-run valueIn any for visited where-true where-false begun turns Sharing.shared start Sharing.shared-run beyond
     number-at nodes-from header condition-record node kinds layout names-node is-choice condition-kinds condition-layout field-fits
     judge written short edition-wrong counts-wrong length-wrong lowest lowest-from condition-fits slot-fits node-fits class slot-classed classed slot-names node-names names named-wrong check-rows
-    settings condition-kind condition-reading condition-below condition kind-of reading read-below read routine size name node-word words bytes-of all-bytes header-word term-image termᵃ termˢ plain-image
+    settings condition-kind condition-reading condition-below condition kind-of reading read-below read routine size name node-word words bytes-of all-bytes head-word term-image termᵃ termˢ plain-image
     configured space-rows configure-rows over Plain.meant progress-of lent-rows plain-rows part Shared.meant each numbers-of tally-of set-of ends-of exact set-rows shared-rows
     shape-of in-condition condition-rows G L I J E S comes-back table
 opened = tt

@@ -7,6 +7,7 @@ pub mod Answer
 pub mod Configured
 pub mod Plain
 pub mod ByTable
+pub mod TextTold
 pub mod Orders
 pub mod RefusalLines
 pub mod Places
@@ -16,6 +17,9 @@ pub mod Agree
 pub mod PlainRules
 pub mod SharedRules
 pub mod ReadBack
+pub mod TextRead
+pub mod TextBack
+pub mod ThroughText
 pub mod One
 pub mod Images
 pub mod Calls

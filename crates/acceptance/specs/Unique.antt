@@ -22,6 +22,11 @@ use Rattle.image.specs.Check.{answer-of, shape-of}
 use Rattle.image.specs.Refusals.{number-of, place-of}
 use Rattle.image.specs.Rows.{judge, check-rows}
 use Rattle.image.specs.Sets.{in-condition, condition-rows, set-answer}
+use Rattle.written.specs.Theorem.ToldOne.{told-one}
+use Rattle.reading.specs.declared.write.ReadText.{ReadText}
+use Rattle.reading.specs.Reads.{length-of, left-by, ReadsText}
+use Rattle.listing.specs.declared.Listed.{Listed}
+use Rattle.listing.specs.Lists.{list-rows, Lists}
 use Rattle.configure.specs.declared.Configured.{Configured}
 use Rattle.configure.specs.Configured.{configure-rows, Configures}
 use Rattle.plain.specs.declared.PlainRun.{PlainRun}
@@ -32,7 +37,7 @@ use Rattle.shared.specs.SharedRun.{shared-rows, SharedRuns}
 use Rattle.lines.specs.declared.answer.Report.{Report}
 use Rattle.lines.specs.Report.{Reports}
 use Rattle.lines.specs.Text.{text}
-use Rattle.acceptance.specs.Theorem.One.{one-check, one-configure, one-plain, one-shared, one-set, one-condition-set, one-full}
+use Rattle.acceptance.specs.Theorem.One.{one-check, one-configure, one-list, one-read, one-plain, one-shared, one-set, one-condition-set, one-full}
 
 -- a set's bits are a number of 64 bits, as the code has it
 abbrev pub Small : Set → Type 0
@@ -60,6 +65,10 @@ pub record Unique : Type 0 where
       → (r ≡ r′) × (xs′ ≡ xs″) × (T′ ≡ T″)
   pub report : (input out out′ out″ : Bytes) (r r′ : Report) → Reports (text input) out out′ r → Reports (text input) out out″ r′
       → (r ≡ r′) × (out′ ≡ out″)
+  -- ---- the written form
+  pub read : (text out out′ out″ : Bytes) (r r′ : ReadText) → ReadsText text out out′ r → ReadsText text out out″ r′ → (r ≡ r′) × (out′ ≡ out″)
+  pub list : (l out out′ out″ : Bytes) (r r′ : Listed)
+      → Lists (list-rows l (length out)) l out out′ r → Lists (list-rows l (length out)) l out out″ r′ → (r ≡ r′) × (out′ ≡ out″)
   -- ---- sets
   pub empty : (r r′ : Set) → r .bits ≡ 0 → r′ .bits ≡ 0 → r ≡ r′
   pub at : (table : List ℕ) (k : ℕ) (r r′ : Set) → r .bits ≡ getD table k 0 → r′ .bits ≡ getD table k 0 → r ≡ r′
@@ -94,6 +103,10 @@ unique = record {
   shared-run = λ l set budget xs xs′ xs″ T T′ T″ r r′ w w′.
       (one-shared r r′ (w .answered) (w′ .answered), w .store-is ∙ sym (w′ .store-is), w .tally-is ∙ sym (w′ .tally-is));
   report = λ input out out′ out″ r r′ w w′. (w .answered ∙ sym (w′ .answered), w .out-is ∙ sym (w′ .out-is));
+  read = λ text out out′ out″ r r′ w w′.
+      let same = told-one (w′ .by-grammar) (w .by-grammar) in
+      (one-read r r′ (w .answered) (w′ .answered ∙ ap length-of same), w .out-is ∙ sym (w′ .out-is ∙ ap (λ a. left-by a out) same));
+  list = λ l out out′ out″ r r′ w w′. (one-list r r′ (w .answered) (w′ .answered), w .out-is ∙ sym (w′ .out-is));
   empty = λ r r′ e e′. ap (λ (n : ℕ). record { bits = n }) (e ∙ sym e′);
   at = λ table k r r′ e e′. ap (λ (n : ℕ). record { bits = n }) (e ∙ sym e′);
   meet = λ A B r r′ h h′ e e′. one-set _ r r′ h h′ e e′;

@@ -9,6 +9,7 @@ use Rattle.image.specs.Bytes.{Bytes, over}
 use Rattle.image.specs.Rows.{judge, check-rows, written}
 use Rattle.image.specs.Check.{shape-of}
 use Rattle.image.specs.Sets.{in-condition, condition-rows}
+use Rattle.listing.specs.Lists.{listing-of, list-rows}
 use Rattle.configure.specs.Configured.{configured, configure-rows}
 use Rattle.plain.specs.PlainRun.{meant, progress-of, plain-rows}
 use Rattle.calls.specs.declared.reply.Reply.{Reply}
@@ -31,6 +32,12 @@ plain-reply l budget xs = reply progress-reply (judge (plain-rows l budget (leng
 
 abbrev pub plain-left : Bytes → ℕ → List ℤ → List ℤ
 plain-left l budget xs = written (plain-rows l budget (length xs)) (meant l budget xs .numbers) xs
+
+abbrev pub list-reply : Bytes → Bytes → Reply
+list-reply l out = reply length-reply (judge (list-rows l (length out)) (length (listing-of l)))
+
+abbrev pub list-left : Bytes → Bytes → Bytes
+list-left l out = written (list-rows l (length out)) (over (listing-of l) out) out
 
 -- the length of the text, and whether it is longer than the space; and what is left in that
 abbrev pub text-reply : Bytes → Bytes → Reply

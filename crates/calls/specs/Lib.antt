@@ -3,4 +3,5 @@ pub mod Reply
 pub mod Calls
 pub mod Space
 pub mod Shared
+pub mod Read
 pub mod Theorem

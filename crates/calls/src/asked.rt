@@ -2,7 +2,8 @@
 ghost use mathlib.Core.Path.{_≡_};
 ghost use Rattle.shared.specs.Lent.{tally};
 ghost use Rattle.lines.specs.Text.{text};
-ghost use Rattle.calls.specs.Calls.{check-reply, condition-reply, configure-reply, configure-left, plain-reply, plain-left, text-reply, text-left};
+ghost use Rattle.calls.specs.Calls.{check-reply, condition-reply, configure-reply, configure-left, plain-reply, plain-left, list-reply, list-left, text-reply, text-left};
+ghost use Rattle.calls.specs.Read.{ReadSo};
 ghost use Rattle.calls.specs.Shared.{EndedAll};
 use crate::reply::Reply;
 use crate::reply::ends;
@@ -17,8 +18,12 @@ use image::conditions::ConditionSet;
 use image::conditions::condition_set;
 use lines::Report;
 use lines::report;
+use listing::Listed;
+use listing::list;
 use plain::PlainRun;
 use plain::plain_run;
+use reading::ReadText;
+use reading::read;
 use sets::Set;
 use shared::SharedRun;
 use shared::shared_run;
@@ -91,5 +96,26 @@ pub fn reported(input: &[u8], out: &mut [u8]) -> Reply
     match report(input, out) {
         Report::Text(n) => values(n, 0, 0),
         Report::Short(n) => values(n, 1, 0),
+    }
+}
+
+// The length of the listing.
+pub fn listed(image: &[u8], out: &mut [u8]) -> Reply
+    ensures { λ y. ⌜ y ≡ list-reply (now (image .entry)) (now (out .entry)) ⌝ }
+    ensures { λ _. ⌜ now (out .exit) ≡ list-left (now (image .entry)) (now (out .entry)) ⌝ }
+{
+    match list(image, out) {
+        Listed::Refused(r) => refused(r),
+        Listed::Length(n) => values(n, 0, 0),
+    }
+}
+
+// The length of the image.
+pub fn read_so(text: &[u8], out: &mut [u8]) -> Reply
+    ensures { λ y. ⌜ ReadSo (now (text .entry)) (now (out .entry)) (now (out .exit)) y ⌝ }
+{
+    match read(text, out) {
+        ReadText::Refused(r) => refused(r),
+        ReadText::Length(n) => values(n, 0, 0),
     }
 }

@@ -2,8 +2,9 @@
 ghost use mathlib.Core.Path.{_≡_};
 ghost use Rattle.shared.specs.Lent.{tally};
 ghost use Rattle.lines.specs.Text.{text};
-ghost use Rattle.calls.specs.Calls.{check-reply, condition-reply, configure-reply, configure-left, plain-reply, plain-left, text-reply, text-left};
+ghost use Rattle.calls.specs.Calls.{check-reply, condition-reply, configure-reply, configure-left, plain-reply, plain-left, list-reply, list-left, text-reply, text-left};
 ghost use Rattle.calls.specs.Space.{where-right, Answers};
+ghost use Rattle.calls.specs.Read.{AnsweredRead};
 ghost use Rattle.calls.specs.Shared.{AnsweredAll};
 
 mod asked; // asked.rt: each call carried out
@@ -12,7 +13,9 @@ mod reply; // reply.rt: an answer as eight numbers
 use asked::checked;
 use asked::ended;
 use asked::ended_all;
+use asked::listed;
 use asked::member;
+use asked::read_so;
 use asked::reported;
 use asked::written;
 use reply::fill;
@@ -125,6 +128,33 @@ pub extern "C" fn bench_report(input: &[u8], out: &mut [u8], answer: &mut [usize
         return false;
     }
     let r = reported(input, out);
+    fill(r, answer);
+    true
+}
+
+#[no_mangle]
+pub extern "C" fn bench_list(image: &[u8], out: &mut [u8], answer: &mut [usize]) -> bool
+    ensures { λ y. ⌜ Answers (now (answer .entry)) (now (answer .exit))
+        (list-reply (now (image .entry)) (now (out .entry))) y ⌝ }
+    ensures { λ _. ⌜ now (out .exit) ≡ where-right (now (answer .entry))
+        (list-left (now (image .entry)) (now (out .entry))) (now (out .entry)) ⌝ }
+{
+    if answer.len() != ANSWER_LENGTH {
+        return false;
+    }
+    let r = listed(image, out);
+    fill(r, answer);
+    true
+}
+
+#[no_mangle]
+pub extern "C" fn bench_read(text: &[u8], out: &mut [u8], answer: &mut [usize]) -> bool
+    ensures { λ y. ⌜ AnsweredRead (now (text .entry)) (now (out .entry)) (now (out .exit)) (now (answer .entry)) (now (answer .exit)) y ⌝ }
+{
+    if answer.len() != ANSWER_LENGTH {
+        return false;
+    }
+    let r = read_so(text, out);
     fill(r, answer);
     true
 }

@@ -13,7 +13,7 @@ use Rattle.image.specs.Theorem.Words.{length-all}
 use Rattle.image.specs.Theorem.Encoded.{length-branch, size-some}
 use Rattle.configure.specs.Inner.Term.{hang, term-at}
 use Rattle.configure.specs.Inner.Writing.{Writing, Wrote, hung, SlotWriting, SlotWrote, named}
-use Rattle.configure.proofs.Bytes.{sets-app, bytes-app}
+use Rattle.image.proofs.Stores.{sets-app, bytes-app}
 
 -- ---- bytes
 

@@ -14,8 +14,9 @@ use image::accept::check;
 use image::conditions::all_settings;
 use image::conditions::condition_sets;
 use image::refusals::Refusal;
+use image::words::head_word;
+use image::words::put;
 use sizes::configured_size;
-use write::put;
 use write::write;
 
 // The length written, or the refusal.
@@ -36,7 +37,7 @@ fn configure_ready(image: &[u8], shape: Shape, sets: &[u64], s: u64, out: &mut [
     if out.len() < 8 + 8 * size {
         return Configured::Refused(Refusal::SpaceShort);
     }
-    put(out, 0, 0x100_0000_0000_0000 + (size as u64) * 0x1000_0000);
+    put(out, 0, head_word(0, 0, size), 8);
     let written = write(image, conditions, sets, s, nodes - 1, 0, out);
     Configured::Length(8 + 8 * written)
 }

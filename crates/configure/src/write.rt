@@ -1,13 +1,11 @@
 // Writing a configured node: a choice is its chosen part, and any other node follows all of its subtree, "children in the order a, b, c".
 ghost use mathlib.Core.Path.{_≡_};
 ghost use mathlib.Core.Bool.{true, cond};
-ghost use Prim.Native.Nat.{_+_, _≤_, _<_};
+ghost use Prim.Native.Nat.{_<_};
 ghost use lib.Dec.{eqb};
 ghost use lib.ListN.{length};
-ghost use lib.Seq.{sets};
 ghost use Rattle.image.specs.Layout.{names-node};
-ghost use Rattle.image.specs.Term.{node-word, bytes-of};
-ghost use Rattle.configure.specs.Inner.Writing.{Writing, Wrote, hung, SlotWriting, SlotWrote, Fields, named, own-word, Ended};
+ghost use Rattle.configure.specs.Inner.Writing.{Writing, Wrote, hung, SlotWriting, SlotWrote, named, own-word, Ended};
 use image::Node;
 use image::choice::chosen;
 use image::kinds::NUMBER;
@@ -17,20 +15,8 @@ use image::kinds::is_choice;
 use image::kinds::layout;
 use image::kinds::names_node;
 use image::node_at;
-
-// The eight bytes of w, most significant first; the least is stored first.
-pub fn put(out: &mut [u8], at: usize, w: u64)
-    requires { ⌜ at + 8 ≤ length (now out) ⌝ }
-    ensures { λ _. ⌜ now (out .exit) ≡ sets (now (out .entry)) at (bytes-of 8 w) ⌝ }
-{
-    let mut rest = w;
-    let mut i: usize = 8;
-    while 0 < i {
-        i -= 1;
-        out[at + i] = (rest % 256) as u8;
-        rest /= 256;
-    }
-}
+use image::words::node_word;
+use image::words::put;
 
 // A child was just written, so its name is the number before the next; a field that names no node is zero.
 fn name(slot: u32, next: usize) -> usize
@@ -45,19 +31,6 @@ fn value_of(node: Node) -> u32
     ensures { λ r. ⌜ r ≡ cond (eqb (node .kind) 0) (node .value) 0 ⌝ }
 {
     if node.kind == NUMBER { node.value } else { 0 }
-}
-
-// No kind above 23 is known, so a value of 32 bits never carries out of the word.
-fn node_word(kind: u32, variable: usize, value: u32, a: usize, b: usize, c: usize) -> u64
-    requires { ⌜ Fields kind variable a b c ⌝ }
-    ensures { λ r. ⌜ r ≡ node-word kind variable value a b c ⌝ }
-{
-    (kind as u64) * 0x400_0000_0000_0000
-        + (variable as u64) * 0x10_0000_0000_0000
-        + (a as u64) * 0x100_0000_0000
-        + (b as u64) * 0x1000_0000
-        + (c as u64) * 0x1_0000
-        + (value as u64)
 }
 
 // The node itself, once its children are written: the next nodes after them are after_a, after_b and after_c.
@@ -117,6 +90,6 @@ pub fn write(
     let after_b = write_slot(image, conditions, sets, s, slot_b, node.b, after_a, out);
     let after_c = write_slot(image, conditions, sets, s, digits % 8, node.c, after_b, out);
     let own = own_word(node, after_a, after_b, after_c);
-    put(out, 8 + 8 * after_c, own);
+    put(out, 8 + 8 * after_c, own, 8);
     after_c + 1
 }

@@ -3,3 +3,4 @@ pub mod Numbers
 pub mod Counting
 pub mod Judged
 pub mod Searches
+pub mod Stores

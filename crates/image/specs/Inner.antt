@@ -4,3 +4,4 @@ pub mod Headed
 pub mod Lower
 pub mod SetsOf
 pub mod Ready
+pub mod Words

@@ -1,4 +1,4 @@
--- "a definition states this paper's number and values for each enum case": a refusal's number in document 01's table, and its place.
+-- "a definition states this paper's number and values for each enum case": a refusal's number in document 01's table and request C-11's, and its place.
 use Prim.Native.Nat.{ℕ}
 use Rattle.image.specs.declared.refusals.Refusal.{Refusal}
 use Rattle.image.specs.declared.refusals.Refusal.the-variants.{
@@ -18,6 +18,8 @@ use Rattle.image.specs.declared.refusals.Refusal.the-variants.{
   SpaceShort,
   ConditionBeyond,
   InputShort,
+  TextWrong,
+  TooMany,
 }
 
 abbrev pub number-of : Refusal → ℕ
@@ -37,6 +39,8 @@ number-of (ChoiceHeld n) = 13
 number-of SpaceShort = 14
 number-of ConditionBeyond = 15
 number-of InputShort = 16
+number-of (TextWrong at) = 17
+number-of (TooMany at) = 18
 
 abbrev pub place-of : Refusal → ℕ
 place-of ImageShort = 0
@@ -55,3 +59,5 @@ place-of (ChoiceHeld n) = n
 place-of SpaceShort = 0
 place-of ConditionBeyond = 0
 place-of InputShort = 0
+place-of (TextWrong at) = at
+place-of (TooMany at) = at

@@ -1,5 +1,5 @@
--- Terms, trees of nodes whatever their class, and their bytes: "nodes numbered so that a node follows all of its subtree, children in the order a, b, c"
--- (document 01, "Configuring").
+-- Terms, trees of nodes whatever their class, and the words and bytes of an image: "nodes numbered so that a node follows all of its subtree,
+-- children in the order a, b, c" (document 01, "Configuring").
 use Prim.Native.Nat.{ℕ, zero, suc, _+_, _-_, _*_, _/_, _%_, _^_}
 use mathlib.Core.List.{List, [], _∷_, _++_}
 use Rattle.image.specs.Bytes.{Bytes}
@@ -29,6 +29,16 @@ unfoldable pub name : Branch → ℕ → ℕ
 name none next = 0
 name (some t) next = next - 1
 
+-- ---- words
+
+-- edition 1, F, C, P
+unfoldable pub head-word : ℕ → ℕ → ℕ → ℕ
+head-word F conditions nodes = 2 ^ 56 + F * 2 ^ 52 + conditions * 2 ^ 40 + nodes * 2 ^ 28
+
+-- "32 bits each: kind 4, option 4, left 12, right 12"
+unfoldable pub condition-word : ℕ → ℕ → ℕ → ℕ → ℕ
+condition-word kind i left right = kind * 2 ^ 28 + i * 2 ^ 24 + left * 2 ^ 12 + right
+
 -- a node's 64 bits
 unfoldable pub node-word : ℕ → ℕ → ℕ → ℕ → ℕ → ℕ → ℕ
 node-word kind v value a b c = kind * 2 ^ 58 + v * 2 ^ 52 + a * 2 ^ 40 + b * 2 ^ 28 + c * 2 ^ 16 + value
@@ -57,9 +67,6 @@ unfoldable pub all-bytes : List ℕ → Bytes
 all-bytes [] = []
 all-bytes (w ∷ ws) = bytes-of 8 w ++ all-bytes ws
 
--- edition 1, F = 0, C = 0
-unfoldable pub header-word : ℕ → ℕ
-header-word nodes = 2 ^ 56 + nodes * 2 ^ 28
-
+-- F = 0, C = 0
 unfoldable pub term-image : Term → Bytes
-term-image t = all-bytes (header-word (size t) ∷ words t 0)
+term-image t = all-bytes (head-word 0 0 (size t) ∷ words t 0)

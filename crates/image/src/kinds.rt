@@ -10,6 +10,8 @@ pub const SUM: u32 = 2;
 
 pub const PICK: u32 = 3;
 
+pub const CHOICE_OF_ARITHMETIC: u32 = 4;
+
 pub const FALSE: u32 = 8;
 
 pub const TRUE: u32 = 9;
@@ -19,6 +21,8 @@ pub const NOT: u32 = 10;
 pub const AND: u32 = 11;
 
 pub const LESS: u32 = 12;
+
+pub const CHOICE_OF_BOOLEANS: u32 = 13;
 
 pub const SKIP: u32 = 16;
 
@@ -46,6 +50,8 @@ pub const OF_A: u32 = 0o100;
 pub const OF_B: u32 = 0o10;
 
 // What a digit says: the class of a node, or what a field holds.
+pub const BOOLEAN: u32 = 2;
+
 pub const STATEMENT: u32 = 3;
 
 pub const CONDITION: u32 = 4;
@@ -87,6 +93,8 @@ pub const OPTION: u32 = 2;
 pub const NOT_CONDITION: u32 = 3;
 
 pub const AND_CONDITION: u32 = 4;
+
+pub const OR_CONDITION: u32 = 5;
 
 // The weights of a condition's digits: option and left; the last digit is right's.
 pub const OF_OPTION: u32 = 0o100;

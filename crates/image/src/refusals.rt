@@ -1,4 +1,4 @@
-// Document 01's refusals: one case for each number, with its place where that is not 0.
+// The refusals of documents 01 and 02: one case for each number, with its place where that is not 0.
 ghost use mathlib.Core.Path.{_≡_};
 ghost use Rattle.image.specs.Refusals.{number-of, place-of};
 
@@ -19,9 +19,11 @@ pub enum Refusal {
     SpaceShort,
     ConditionBeyond,
     InputShort,
+    TextWrong(usize),
+    TooMany(usize),
 }
 
-// The refusal's number in document 01's table.
+// The refusal's number in the papers' table.
 pub fn number(r: Refusal) -> u32
     ensures { λ n. ⌜ n ≡ number-of r ⌝ }
 {
@@ -42,6 +44,8 @@ pub fn number(r: Refusal) -> u32
         Refusal::SpaceShort => 14,
         Refusal::ConditionBeyond => 15,
         Refusal::InputShort => 16,
+        Refusal::TextWrong(_) => 17,
+        Refusal::TooMany(_) => 18,
     }
 }
 
@@ -54,6 +58,8 @@ pub fn place(r: Refusal) -> usize
         Refusal::ClassWrong(n) => n,
         Refusal::NamedWrong(n) => n,
         Refusal::ChoiceHeld(n) => n,
+        Refusal::TextWrong(at) => at,
+        Refusal::TooMany(at) => at,
         Refusal::ImageShort => 0,
         Refusal::EditionWrong => 0,
         Refusal::CountsWrong => 0,

@@ -1,3 +1,2 @@
 -- What the functions inside ask of each other: no part of the standard.
-pub mod Puts
 pub mod Telling

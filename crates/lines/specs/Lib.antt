@@ -1,5 +1,4 @@
 -- The report's text, and what the writing of it asks for and leaves.
-pub mod Decimal
 pub mod Words
 pub mod Text
 pub mod Limits

@@ -14,7 +14,7 @@ use Rattle.plain.specs.PlainRun.{progress-of}
 use Rattle.shared.specs.declared.Ends.{Ends}
 use Rattle.shared.specs.Lent.{Tally, tally}
 use Rattle.shared.specs.SharedRun.{meant, ends-of, shared-rows}
-use Rattle.lines.specs.Decimal.{decimal, signed-decimal}
+use Rattle.text.specs.Decimal.{decimal, signed-decimal}
 use Rattle.lines.specs.Words.{space, word, visits-word, faults-word, out-word, refused-word, at-word, field}
 
 -- ---- lines

@@ -3,7 +3,7 @@ use Prim.Native.Nat.{ℕ}
 use mathlib.Core.List.{List, [], _∷_, _++_}
 use lib.ListN.{getD}
 use Rattle.image.specs.Bytes.{Bytes}
-use Rattle.lines.specs.Decimal.{decimal}
+use Rattle.text.specs.Decimal.{decimal}
 
 abbrev pub space : Bytes
 space = 32 ∷ []

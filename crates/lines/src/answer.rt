@@ -1,24 +1,13 @@
-// A text written as it is, and handed over: all of it where it fits, else only its length.
-ghost use Prim.Native.Nat.{_+_, _≤_};
+// A text handed over: all of it where it fits, else only its length.
+ghost use Prim.Native.Nat.{_≤_};
 ghost use lib.ListN.{length, take};
-ghost use Rattle.lines.specs.Inner.Puts.{Puts};
 ghost use Rattle.lines.specs.Report.{Reports};
+use text::put;
 
 // How long the text is: all of it is in `out`, or `out` is too short and as it was.
 pub enum Report {
     Text(usize),
     Short(usize),
-}
-
-// A text as it is.
-pub fn put(out: &mut [u8], at: usize, text: &[u8]) -> usize
-    requires { ⌜ at + length (now text) ≤ length (now out) ⌝ }
-    ensures { λ r. ⌜ Puts (now (text .entry)) at (now (out .entry)) (now (out .exit)) r ⌝ }
-{
-    for i in 0..text.len() {
-        out[at + i] = text[i];
-    }
-    at + text.len()
 }
 
 // The first n bytes of a text.

@@ -5,12 +5,11 @@ ghost use Rattle.image.specs.Sets.{settings};
 ghost use Rattle.shared.specs.Lent.{tally};
 ghost use Rattle.lines.specs.Limits.{enough};
 ghost use Rattle.lines.specs.Text.{run-text, text};
-ghost use Rattle.lines.specs.Inner.Puts.{Puts};
+ghost use Rattle.text.specs.Inner.Puts.{Puts};
 ghost use Rattle.lines.specs.Report.{Reports};
 ghost use Rattle.lines.specs.Inner.Telling.{Blank, Good};
 
 mod answer; // answer.rt: what is answered, and a text handed over
-mod decimal; // decimal.rt: numbers
 mod input; // input.rt: the set and the budget
 mod line; // line.rt: lines
 
@@ -23,7 +22,7 @@ use input::budget_in;
 use input::set_in;
 use line::put_ends;
 use line::put_lines;
-use line::put_refusal;
+pub use line::put_refusal;
 use sets::Set;
 use shared::SharedRun;
 use shared::shared_run;

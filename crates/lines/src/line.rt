@@ -6,11 +6,8 @@ ghost use Rattle.image.specs.Refusals.{number-of, place-of};
 ghost use Rattle.shared.specs.Lent.{tally};
 ghost use Rattle.lines.specs.Words.{space, word, field};
 ghost use Rattle.lines.specs.Text.{line, last-line, refusal-line};
-ghost use Rattle.lines.specs.Inner.Puts.{Puts};
+ghost use Rattle.text.specs.Inner.Puts.{Puts};
 ghost use Rattle.lines.specs.Inner.Telling.{Lined, tallied};
-use super::answer::put;
-use super::decimal::put_decimal;
-use super::decimal::put_signed;
 use image::refusals::Refusal;
 use image::refusals::number;
 use image::refusals::place;
@@ -20,6 +17,9 @@ use plain::progress::LIVE;
 use plain::progress::OUT;
 use plain::progress::Progress;
 use shared::Ends;
+use text::put;
+use text::put_decimal;
+use text::put_signed;
 
 // A number behind its word, and the byte that ends it.
 fn put_field(out: &mut [u8], at: usize, name: &[u8], n: usize, end: u8) -> usize

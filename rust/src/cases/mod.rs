@@ -6,10 +6,13 @@ pub mod changed;
 mod damaged;
 pub mod every;
 pub mod lent;
+pub mod places;
 pub mod random;
 pub mod refused;
 pub mod samples;
 mod spaces;
+pub mod texts;
+pub mod written;
 
 use crate::call::Case;
 use crate::paper::check::check;

@@ -19,6 +19,12 @@ use Rattle.image.specs.Refusals.{number-of, place-of}
 use Rattle.image.specs.Rows.{Answer, refused, answer}
 use Rattle.image.specs.Sets.{set-answer}
 use Rattle.image.specs.Theorem.One.{refusal-from, refusal-known, same-refusal}
+use Rattle.reading.specs.declared.write.ReadText.{ReadText}
+use Rattle.reading.specs.declared.write.ReadText.the-variants.{Length as ReadLength, Refused as ReadRefused}
+use Rattle.reading.specs.Reads.{read-answer}
+use Rattle.listing.specs.declared.Listed.{Listed}
+use Rattle.listing.specs.declared.Listed.the-variants.{Length as ListLength, Refused as ListRefused}
+use Rattle.listing.specs.Lists.{list-answer}
 use Rattle.configure.specs.declared.Configured.{Configured}
 use Rattle.configure.specs.declared.Configured.the-variants.{Length, Refused as ConfigureRefused}
 use Rattle.configure.specs.Configured.{configure-answer}
@@ -49,6 +55,20 @@ configure-known (ConfigureRefused q) = ap ConfigureRefused (refusal-known q)
 
 pub one-configure : {a : Answer ℕ} (r r′ : Configured) → configure-answer r ≡ a → configure-answer r′ ≡ a → r ≡ r′
 one-configure r r′ e e′ = sym (configure-known r) ∙ ap (from Length ConfigureRefused) (e ∙ sym e′) ∙ configure-known r′
+
+list-known : (r : Listed) → from ListLength ListRefused (list-answer r) ≡ r
+list-known (ListLength x) = refl
+list-known (ListRefused q) = ap ListRefused (refusal-known q)
+
+pub one-list : {a : Answer ℕ} (r r′ : Listed) → list-answer r ≡ a → list-answer r′ ≡ a → r ≡ r′
+one-list r r′ e e′ = sym (list-known r) ∙ ap (from ListLength ListRefused) (e ∙ sym e′) ∙ list-known r′
+
+read-known : (r : ReadText) → from ReadLength ReadRefused (read-answer r) ≡ r
+read-known (ReadLength x) = refl
+read-known (ReadRefused q) = ap ReadRefused (refusal-known q)
+
+pub one-read : {a : Answer ℕ} (r r′ : ReadText) → read-answer r ≡ a → read-answer r′ ≡ a → r ≡ r′
+one-read r r′ e e′ = sym (read-known r) ∙ ap (from ReadLength ReadRefused) (e ∙ sym e′) ∙ read-known r′
 
 plain-known : (r : PlainRun) → from PlainEnded PlainRefused (plain-answer r) ≡ r
 plain-known (PlainEnded x) = refl

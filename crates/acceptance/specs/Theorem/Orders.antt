@@ -6,6 +6,7 @@ use lib.IntN.{ℤ}
 use Rattle.image.specs.Bytes.{Bytes}
 use Rattle.image.specs.Rows.{numbers, then, check-rows}
 use Rattle.image.specs.Sets.{condition-rows}
+use Rattle.listing.specs.Lists.{text-rows, list-rows}
 use Rattle.configure.specs.Configured.{space-rows, configure-rows}
 use Rattle.plain.specs.PlainRun.{lent-rows, plain-rows}
 use Rattle.shared.specs.Lent.{Tally}
@@ -23,6 +24,10 @@ condition-order l k = refl
 pub configure-order : (l : Bytes) (s space : ℕ) → numbers (configure-rows l s space) ≡ then (11 ∷ 14 ∷ [])
 unfolding check-rows configure-rows space-rows
 configure-order l s space = refl
+
+pub list-order : (l : Bytes) (space : ℕ) → numbers (list-rows l space) ≡ then (18 ∷ 14 ∷ [])
+unfolding check-rows list-rows text-rows
+list-order l space = refl
 
 pub plain-order : (l : Bytes) (budget space : ℕ) → numbers (plain-rows l budget space) ≡ then (13 ∷ 10 ∷ 12 ∷ [])
 unfolding check-rows plain-rows lent-rows

@@ -24,7 +24,7 @@ use Rattle.configure.specs.Theorem.Result as Result
 use Rattle.acceptance.specs.Theorem.Configured.{was-accepted, length-written, image-written, is-written}
 
 -- an answer that is no refusal
-good : (r : Checked) (shape : Shape) → answer-of r ≡ answer shape → r ≡ Good shape
+pub good : (r : Checked) (shape : Shape) → answer-of r ≡ answer shape → r ≡ Good shape
 good (Good q) shape e = let same : q ≡ shape = cc in ap Good same
 good (Refused q) shape e = let z : _≡_ {A = ℕ} 0 1 = cc in absurd (omega arith)
 

@@ -9,10 +9,10 @@ use lib.ListN.{getD, drop}
 use Rattle.imp.specs.Shared.{Shared}
 use Rattle.image.specs.Bytes.{Bytes}
 use Rattle.plain.specs.PlainRun.{progress-of}
-use Rattle.lines.specs.Decimal.{digits, decimal}
+use Rattle.text.specs.Decimal.{digits, decimal}
 use Rattle.lines.specs.Words.{field}
 use Rattle.lines.specs.Text.{line, lines, refusal-line}
-use Rattle.lines.specs.Theorem.Digits.{reading, read-back}
+use Rattle.text.specs.Theorem.Digits.{reading, read-back}
 
 -- ---- digits are bytes from 48 on
 

@@ -1,13 +1,13 @@
 -- `configure_ready` meets its contract: the size that was counted is the size that is written, and the space is tested against it first.
 use mathlib.Core.Path.{_≡_, _∙_, ap}
 use mathlib.Core.List.{List}
-use Prim.Native.Nat.{ℕ, _+_, _-_, _*_, _^_, _≤_, _<_}
+use Prim.Native.Nat.{ℕ, _+_, _-_, _*_, _≤_, _<_}
 use native.Mathlib.Omega.{arith}
 use lib.ListN.{length}
 use lib.Seq.{sets, length-sets}
 use borrow.Author.Needs.{needs}
 use Rattle.image.specs.Records.{header}
-use Rattle.image.specs.Term.{size, bytes-of, header-word}
+use Rattle.image.specs.Term.{size, head-word, bytes-of}
 use Rattle.image.specs.Accepted.{Accepted}
 use Rattle.configure.specs.declared.Configured.the-variants.{Length, Refused}
 use Rattle.image.specs.declared.refusals.Refusal.the-variants.{SpaceShort}
@@ -56,12 +56,12 @@ module _ (c : tie.After-configured-size) where
   short : length out < 8 + 8 * c .configured-size .result → Configures (space-rows l s (length out)) l s out out (Refused SpaceShort)
   short h = written.short l acc s out (start .args .shape .nodes) nodes-are (omega (arith, size-is))
 
-  all-written : {out₁ out₂ : List ℕ} {end : ℕ} → 8 + 8 * c .configured-size .result ≤ length out
-      → out₁ ≡ sets out 0 (bytes-of 8 (2 ^ 56 + c .configured-size .result * 2 ^ 28)) → Wrote l s last 0 out₁ out₂ end
+  all-written : {word end : ℕ} {out₁ out₂ : List ℕ} → 8 + 8 * c .configured-size .result ≤ length out → word ≡ head-word 0 0 (c .configured-size .result)
+      → out₁ ≡ sets out 0 (bytes-of 8 word) → Wrote l s last 0 out₁ out₂ end
       → Configures (space-rows l s (length out)) l s out out₂ (Length (8 + 8 * end))
-  unfolding header-word
-  all-written h first then =
-      written.carried l acc s out (start .args .shape .nodes) nodes-are (omega (arith, size-is)) (first ∙ ap (λ n. sets out 0 (bytes-of 8 (2 ^ 56 + n * 2 ^ 28))) size-is) then
+  all-written h word-is first then =
+      written.carried l acc s out (start .args .shape .nodes) nodes-are (omega (arith, size-is))
+      (first ∙ ap (λ w. sets out 0 (bytes-of 8 w)) (word-is ∙ ap (head-word 0 0) size-is)) then
 
 configured-size-requires : tie.Need-configured-size-requires
 configured-size-requires c κs = search needs
@@ -75,11 +75,12 @@ add-if1 c = omega (arith, size-is c, few c)
 returns : tie.Need-returns
 returns c = short (c .before) (c .if1 .taken)
 
-mul-put : tie.Need-mul-put
-mul-put c = omega (arith, size-is (c .before .before), few (c .before .before))
-
-add-put : tie.Need-add-put
-add-put c = omega (arith, size-is (c .before .before), few (c .before .before))
+head-word-requires : tie.Need-head-word-requires
+head-word-requires c κs = record {
+  options-small = omega arith;
+  conditions-small = omega arith;
+  nodes-small = omega (arith, size-is (c .before .before), few (c .before .before));
+}
 
 put-requires : tie.Need-put-requires
 put-requires c κs = search needs
@@ -89,17 +90,17 @@ sub-write c = search needs
 
 write-requires : tie.Need-write-requires
 write-requires c κs =
-    let counted : tie.After-configured-size = c .before .before .before .before .before .before in
+    let counted : tie.After-configured-size = c .before .before .before .before .before .before .before in
     record {
       ready = start counted .pre .0;
       node-below = omega (arith, nodes-are counted, some-node counted);
       few = omega (arith, few counted);
       fits = omega (
         arith,
-        c .before .before .before .before .before .if1 .left,
+        c .before .before .before .before .before .before .if1 .left,
         size-is counted,
         ap length (c .before .before .before .put .ensures),
-        length-sets (out counted) 0 (bytes-of 8 (2 ^ 56 + counted .configured-size .result * 2 ^ 28)),
+        length-sets (out counted) 0 (bytes-of 8 (c .before .before .before .before .head-word .result)),
       );
     }
 
@@ -114,8 +115,9 @@ same-length c = search needs
 
 returns-2 : tie.Need-returns-2
 returns-2 c =
-    let counted : tie.After-configured-size = c .before .before .before .before .before .before .before .before .before in
-    all-written counted (c .before .before .before .before .before .before .before .before .if1 .left) (c .before .before .before .before .before .before .put .ensures) (c .before .before .write .ensures)
+    let headed : tie.After-head-word = c .before .before .before .before .before .before .before in
+    let counted : tie.After-configured-size = headed .before .before .before in
+    all-written counted (headed .before .before .if1 .left) (headed .head-word .ensures) (c .before .before .before .before .before .before .put .ensures) (c .before .before .write .ensures)
 
 pub configure-ready-spec : {M : Type 1} → statement M
 configure-ready-spec =
@@ -125,8 +127,7 @@ configure-ready-spec =
     mul-if1
     add-if1
     returns
-    mul-put
-    add-put
+    head-word-requires
     put-requires
     sub-write
     write-requires

@@ -43,14 +43,6 @@ pub record SlotWrote (b : Branch) (at : ℕ) (out out′ : Bytes) (next : ℕ) :
 
 -- ---- a node's own word
 
--- fields whose word has 64 bits, whatever its value of 32
-pub record Fields (kind variable a b c : ℕ) : Type 0 where
-  pub known : kind < 24
-  pub variable-small : variable < 64
-  pub a-small : a < 4096
-  pub b-small : b < 4096
-  pub c-small : c < 4096
-
 -- the name of the child that was written last before node `next`; 0 in a field that names none
 unfoldable pub named : ℕ → ℕ → ℕ
 named slot next = cond (names-node slot) (next - 1) 0

@@ -12,7 +12,7 @@ use Rattle.image.specs.Records.{nodes-from, header, condition-record, node}
 use Rattle.image.specs.Layout.{kinds, layout, names-node, condition-kinds, condition-layout, field-fits}
 use Rattle.image.specs.Rows.{answer, judge, short, edition-wrong, counts-wrong, length-wrong, lowest, lowest-from, condition-fits, slot-fits, node-fits, class, slot-classed, classed, slot-names, node-names, names, named-wrong, check-rows}
 use Rattle.image.specs.Tree.{condition-kind, condition-reading, condition, kind-of, reading, read-below, read, routine}
-use Rattle.image.specs.Term.{size, name, node-word, words, bytes-of, all-bytes, header-word, term-image}
+use Rattle.image.specs.Term.{size, name, head-word, node-word, words, bytes-of, all-bytes, term-image}
 use Rattle.image.specs.Encode.{termᵃ, termˢ, plain-image}
 use Rattle.image.specs.Theorem.RoutineH.{H}
 use Rattle.configure.specs.Configured.{configured}
@@ -42,5 +42,5 @@ unfolding table.H routine read reading kind-of node number-at nodes-from header 
 is-H = refl
 
 pub case-f : configured H 1 ≡ H-1
-unfolding table.H configured configure configureᵃ configureᵇ holds on-in low32 plain-image term-image all-bytes bytes-of header-word node-word name words size termᵃ termˢ bit digit
+unfolding table.H configured configure configureᵃ configureᵇ holds on-in low32 plain-image term-image all-bytes bytes-of head-word node-word name words size termᵃ termˢ bit digit
 case-f = ap (λ t. plain-image (configure 1 t)) is-H ∙ refl

@@ -21,13 +21,16 @@ use Rattle.image.specs.declared.refusals.Refusal.the-variants.{
   SpaceShort,
   ConditionBeyond,
   InputShort,
+  TextWrong,
+  TooMany,
 }
 use Rattle.image.specs.Refusals.{number-of, place-of}
 
 unfoldable pub refusal-from : ℕ → ℕ → Refusal
 refusal-from n p = getD (
     ImageShort ∷ ImageShort ∷ EditionWrong ∷ CountsWrong ∷ LengthWrong ∷ ConditionWrong p ∷ NodeWrong p ∷ ClassWrong p ∷ NamedWrong p
-    ∷ SetBeyond ∷ BudgetOver ∷ SettingBeyond ∷ LentWrong ∷ ChoiceHeld p ∷ SpaceShort ∷ ConditionBeyond ∷ InputShort ∷ []) n ImageShort
+    ∷ SetBeyond ∷ BudgetOver ∷ SettingBeyond ∷ LentWrong ∷ ChoiceHeld p ∷ SpaceShort ∷ ConditionBeyond ∷ InputShort
+    ∷ TextWrong p ∷ TooMany p ∷ []) n ImageShort
 
 pub refusal-known : (r : Refusal) → refusal-from (number-of r) (place-of r) ≡ r
 unfolding refusal-from
@@ -47,6 +50,8 @@ refusal-known (ChoiceHeld n) = refl
 refusal-known SpaceShort = refl
 refusal-known ConditionBeyond = refl
 refusal-known InputShort = refl
+refusal-known (TextWrong at) = refl
+refusal-known (TooMany at) = refl
 
 pub same-refusal : (r r′ : Refusal) → number-of r ≡ number-of r′ → place-of r ≡ place-of r′ → r ≡ r′
 same-refusal r r′ e f = sym (refusal-known r) ∙ ap₂ refusal-from e f ∙ refusal-known r′

@@ -8,7 +8,7 @@ use Rattle.image.specs.declared.records.Header.{Header}
 use Rattle.image.specs.Bytes.{number-at}
 use Rattle.image.specs.Records.{header-fields, header, nodes-from, node, node-fields}
 use Rattle.image.specs.Layout.{layout, a-digit, b-digit, c-digit}
-use Rattle.image.specs.Term.{Term, term, Branch, none, some, size, branch-size, name, node-word, words, branch-words, header-word, term-image}
+use Rattle.image.specs.Term.{Term, term, Branch, none, some, size, branch-size, name, head-word, node-word, words, branch-words, term-image}
 use Rattle.image.specs.Theorem.Words.{AllWords, word-at, length-all}
 use Rattle.image.specs.Theorem.Encoded.{name-small, Encoded, length-words}
 use Rattle.image.specs.Theorem.Fine.{Own, own-number, own-kind, Fine, FineBranch, variable-small}
@@ -45,17 +45,17 @@ mutual
 -- ---- the image
 
 module _ (t : Term) (fine : Fine t) (room : size t ≤ 1024) where
-  all-words : AllWords (header-word (size t) ∷ words t 0)
-  unfolding header-word
+  all-words : AllWords (head-word 0 0 (size t) ∷ words t 0)
+  unfolding head-word
   all-words = (omega arith, term-words t fine 0 (omega arith))
 
-  pub header-is : header (term-image t) ≡ header-fields (header-word (size t))
+  pub header-is : header (term-image t) ≡ header-fields (head-word 0 0 (size t))
   unfolding header term-image
-  header-is = ap header-fields (word-at [] (header-word (size t) ∷ words t 0) 0 (omega arith) all-words)
+  header-is = ap header-fields (word-at [] (head-word 0 0 (size t) ∷ words t 0) 0 (omega arith) all-words)
 
   pub header-says : (let h : Header = header (term-image t) in
       (h .edition ≡ 1) × (h .options ≡ 0) × (h .conditions ≡ 0) × (h .nodes ≡ size t) × (h .zero ≡ 0))
-  unfolding header-word
+  unfolding head-word
   header-says = rw header-is (omega arith, omega arith, omega arith, omega arith, omega arith)
 
   pub nodes-are : Encoded (term-image t) 0 (words t 0)
@@ -63,8 +63,8 @@ module _ (t : Term) (fine : Fine t) (room : size t ≤ 1024) where
   nodes-are i h =
       let at : 8 + 4 * header (term-image t) .conditions + 8 * (0 + i) ≡ 0 + 8 * suc i = omega (arith, header-says .2) in
       ap (λ n. node-fields (number-at (term-image t) n 8)) at
-      ∙ ap node-fields (word-at [] (header-word (size t) ∷ words t 0) (suc i) (omega (arith, length-words t 0)) all-words)
+      ∙ ap node-fields (word-at [] (head-word 0 0 (size t) ∷ words t 0) (suc i) (omega (arith, length-words t 0)) all-words)
 
   pub length-is : length (term-image t) ≡ 8 + 8 * size t
   unfolding term-image
-  length-is = length-all (header-word (size t) ∷ words t 0) ∙ omega (arith, length-words t 0)
+  length-is = length-all (head-word 0 0 (size t) ∷ words t 0) ∙ omega (arith, length-words t 0)

@@ -1,7 +1,7 @@
 -- `report` meets its contract: what was written to the text's own space is handed over.
 use native.Mathlib.Omega.{arith}
 use borrow.Author.Needs.{needs}
-use Rattle.lines.proofs.Putting.{front}
+use Rattle.text.proofs.Putting.{front}
 use Rattle.lines.proofs.report.Statement.{statement}
 use Rattle.lines.proofs.report.Tie as tie
 

@@ -16,7 +16,7 @@ use Rattle.image.specs.Sets.{settings}
 use Rattle.image.specs.Accepted.{Accepted}
 use Rattle.image.specs.Theorem.Checked.{good-accepted, good-shape}
 use Rattle.lines.specs.Text.{refusal-line, set-in, budget-in, report-rows, told, run-text, text}
-use Rattle.lines.proofs.Putting.{same}
+use Rattle.text.proofs.Putting.{same}
 use Rattle.lines.proofs.Telling.{tell-check}
 use Rattle.lines.proofs.tell.Statement.{statement}
 use Rattle.lines.proofs.tell.Tie as tie

@@ -10,7 +10,7 @@ use Rattle.shared.specs.Lent.{Tally, tally}
 use Rattle.shared.specs.SharedRun.{SharedRuns, shared-rows}
 use Rattle.lines.specs.Inner.Telling.{tallied}
 use Rattle.lines.specs.Text.{blank}
-use Rattle.lines.proofs.Putting.{then, same}
+use Rattle.text.proofs.Putting.{then, same}
 use Rattle.lines.proofs.Telling.{tell-refused, tell-ended}
 use Rattle.lines.proofs.tell_run.Statement.{statement}
 use Rattle.lines.proofs.tell_run.Tie as tie

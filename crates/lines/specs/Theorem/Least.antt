@@ -10,7 +10,7 @@ use Rattle.image.specs.Records.{header, condition-record}
 use Rattle.image.specs.Layout.{condition-kinds, condition-layout, field-fits}
 use Rattle.image.specs.Rows.{judge, short, edition-wrong, counts-wrong, length-wrong, lowest, lowest-from, condition-fits, check-rows}
 use Rattle.shared.specs.SharedRun.{shared-rows}
-use Rattle.lines.specs.Decimal.{digits, decimal}
+use Rattle.text.specs.Decimal.{digits, decimal}
 use Rattle.lines.specs.Words.{field}
 use Rattle.lines.specs.Limits.{longest, most}
 use Rattle.lines.specs.Text.{refusal-line, run-rows, report-rows, told, text}

@@ -8,10 +8,10 @@ use lib.ListN.{length, length-append}
 use mir.Syntax.{w32}
 use mir.Val.{SFits}
 use Rattle.plain.specs.declared.progress.Progress.{Progress}
-use Rattle.lines.specs.Decimal.{decimal, signed-decimal}
+use Rattle.text.specs.Decimal.{decimal, signed-decimal}
 use Rattle.lines.specs.Words.{space, outcome-words, word, field}
 use Rattle.lines.specs.Text.{line}
-use Rattle.lines.specs.Theorem.Decimals.{at-most, short}
+use Rattle.text.specs.Theorem.Decimals.{at-most, short}
 
 -- ---- numbers
 

@@ -18,7 +18,7 @@ use Rattle.image.specs.Tree.{condition-kind, condition-reading, condition, kind
 use Rattle.plain.specs.PlainRun.{progress-of}
 use Rattle.shared.specs.Lent.{part}
 use Rattle.shared.specs.SharedRun.{meant, set-of, ends-of, exact, set-rows, shared-rows}
-use Rattle.lines.specs.Decimal.{digits, decimal, signed-decimal}
+use Rattle.text.specs.Decimal.{digits, decimal, signed-decimal}
 use Rattle.lines.specs.Words.{outcome-words, word, field}
 use Rattle.lines.specs.Text.{line, lines, last-line, refusal-line, zeros, blank, run-of, run-rows, report-rows, told, text}
 

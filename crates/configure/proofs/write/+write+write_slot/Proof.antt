@@ -23,7 +23,7 @@ use Rattle.configure.proofs.write.write_slot.Reads as write-slot
 use Rattle.configure.proofs.write.write_slot.Kinds as write-slot-kinds
 use Rattle.configure.proofs.write.+write+write_slot.Lts-write_slot as write-slot-lts
 use Rattle.configure.proofs.write.own_word.Reads as own-word-reads
-use Rattle.configure.proofs.write.put.Reads as put-reads
+use Rattle.image.proofs.words.put.Reads as put-reads
 use Rattle.image.proofs.choice.chosen.Reads as chosen-reads
 use Rattle.image.proofs.kinds.is_choice.Reads as is-choice-reads
 use Rattle.image.proofs.kinds.layout.Reads as layout-reads

@@ -8,7 +8,7 @@ use lib.Seq.{sets-eq, length-take-le}
 use borrow.Author.Needs.{needs}
 use borrow.Author.Tests.{lt-ltb, le-ltb}
 use Rattle.lines.specs.declared.answer.Report.the-variants.{Text, Short}
-use Rattle.lines.specs.Inner.Puts.{Puts}
+use Rattle.text.specs.Inner.Puts.{Puts}
 use Rattle.image.specs.Bytes.{over}
 use Rattle.lines.specs.Report.{Reports}
 use Rattle.lines.proofs.answer.hand_over.Statement.{statement}

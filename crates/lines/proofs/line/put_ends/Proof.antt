@@ -6,7 +6,7 @@ use native.Mathlib.Omega.{arith}
 use borrow.Author.Needs.{needs}
 use Rattle.lines.specs.Words.{visits-word, faults-word, out-word, field}
 use Rattle.lines.specs.Text.{last-line}
-use Rattle.lines.proofs.Putting.{then, same}
+use Rattle.text.proofs.Putting.{then, same}
 use Rattle.lines.specs.Theorem.Lengths.{ten, field-length}
 use Rattle.lines.proofs.line.put_ends.Statement.{statement}
 use Rattle.lines.proofs.line.put_ends.Tie as tie

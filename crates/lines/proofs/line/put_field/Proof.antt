@@ -4,7 +4,7 @@ use Prim.Native.Nat.{_<_}
 use native.Mathlib.Omega.{arith}
 use lib.ListN.{length, length-set}
 use Rattle.lines.specs.Words.{field}
-use Rattle.lines.proofs.Putting.{then, byte}
+use Rattle.text.proofs.Putting.{then, byte}
 use Rattle.lines.specs.Theorem.Lengths.{field-length}
 use Rattle.lines.proofs.line.put_field.Statement.{statement}
 use Rattle.lines.proofs.line.put_field.Tie as tie

@@ -8,10 +8,10 @@ use mir.Syntax.{w32}
 use mir.Val.{SFits, toZ, ofZ}
 use mir.Facts.{toZ-ofZ}
 use borrow.Author.Needs.{needs}
-use Rattle.lines.specs.Decimal.{signed-decimal}
+use Rattle.text.specs.Decimal.{signed-decimal}
 use Rattle.lines.specs.Words.{space}
 use Rattle.lines.specs.Text.{line}
-use Rattle.lines.proofs.Putting.{then, same}
+use Rattle.text.proofs.Putting.{then, same}
 use Rattle.lines.specs.Theorem.Lengths.{two, ten, eleven, field-length, word-length}
 use Rattle.lines.proofs.line.put_line.Statement.{statement}
 use Rattle.lines.proofs.line.put_line.Tie as tie

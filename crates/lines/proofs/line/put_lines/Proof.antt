@@ -9,10 +9,10 @@ use mir.Val.{SFits, toZ, ofZ}
 use mir.Facts.{toZ-ofZ}
 use borrow.Author.Needs.{needs}
 use Rattle.shared.specs.Lent.{Tally, tally, progress}
-use Rattle.lines.specs.Inner.Puts.{Puts}
+use Rattle.text.specs.Inner.Puts.{Puts}
 use Rattle.lines.specs.Inner.Telling.{tallied}
 use Rattle.lines.specs.Text.{line}
-use Rattle.lines.proofs.Putting.{then, same}
+use Rattle.text.proofs.Putting.{then, same}
 use Rattle.lines.specs.Theorem.Lengths.{line-length}
 use Rattle.lines.proofs.line.put_lines.Statement.{statement}
 use Rattle.lines.proofs.line.put_lines.Tie as tie

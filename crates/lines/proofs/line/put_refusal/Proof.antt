@@ -5,7 +5,7 @@ use native.Mathlib.Omega.{arith}
 use borrow.Author.Needs.{needs}
 use Rattle.lines.specs.Words.{refused-word, at-word, field}
 use Rattle.lines.specs.Text.{refusal-line}
-use Rattle.lines.proofs.Putting.{then, same}
+use Rattle.text.proofs.Putting.{then, same}
 use Rattle.lines.specs.Theorem.Lengths.{ten, twenty, field-length}
 use Rattle.lines.proofs.line.put_refusal.Statement.{statement}
 use Rattle.lines.proofs.line.put_refusal.Tie as tie

@@ -4,7 +4,7 @@ use mathlib.Core.List.{[], _++_}
 use Prim.Native.Nat.{ℕ, zero, suc}
 use borrow.Author.Needs.{needs}
 use Rattle.lines.specs.Words.{space, outcome-words, word}
-use Rattle.lines.proofs.Putting.{same}
+use Rattle.text.proofs.Putting.{same}
 use Rattle.lines.proofs.line.put_word.Statement.{statement}
 use Rattle.lines.proofs.line.put_word.Tie as tie
 

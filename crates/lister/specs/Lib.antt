@@ -1,0 +1,3 @@
+-- What the program's functions promise.
+pub mod Stream
+pub mod Theorem

@@ -1,0 +1,3 @@
+-- What is proved of decimals.
+pub mod Digits
+pub mod Decimals

@@ -1,0 +1,58 @@
+-- The limits of 1,024 nodes and 256 conditions, by the places of the tokens that open them.
+use Prim.Native.Nat.{ℕ, zero, suc, _+_, _≤_}
+use mathlib.Core.Path.{_≡_}
+use mathlib.Core.Bool.{Bool, false, not, _&&_}
+use mathlib.Core.List.{List, [], _∷_, _++_}
+use mathlib.Core.Option.{Option, none, some}
+use lib.Dec.{T}
+use lib.ListN.{length, take, drop}
+use Rattle.imp.specs.Condition.{Condition}
+use Rattle.imp.specs.Routine.{Statement}
+use Rattle.image.specs.Bytes.{Bytes}
+use Rattle.written.specs.Byte.{is-run}
+use Rattle.written.specs.Token.{Opens, nothing, node, record-of, Mark}
+use Rattle.written.specs.Grammar.{Placed}
+
+-- "1,024 nodes and 256 conditions": node 1,025 and condition 257 are too many
+abbrev pub NODES : ℕ
+NODES = 1024
+
+abbrev pub RECORDS : ℕ
+RECORDS = 256
+
+abbrev pub over-by : Opens → ℕ → ℕ → Mark → (ℕ → ℕ → Option Mark) → Option Mark
+over-by nothing n k m on = on n k
+over-by node zero k m on = some m
+over-by node (suc n) k m on = on n k
+over-by record-of n zero m on = some m
+over-by record-of n (suc k) m on = on n k
+
+-- the first token that opens a node past n or a condition past k
+unfoldable pub over : ℕ → ℕ → List Mark → Option Mark
+over n k [] = none
+over n k (m ∷ ms) = over-by (m .does) n k m λ n k. over n k ms
+
+abbrev pub too-many : List Mark → Option Mark
+too-many ms = over NODES RECORDS ms
+
+-- the text begins with a letter or digit
+abbrev pub runs-on : Bytes → Bool
+runs-on [] = false
+runs-on (b ∷ l) = is-run b
+
+-- the token ends in the text where its mark says: no word or number of it goes on
+abbrev pub whole-in : Mark → Bytes → Bool
+whole-in m text = not (m .is-word && runs-on (drop (m .upto) text))
+
+-- "18 a whole word, number or bracket that opens node 1,025 or condition 257, at its first byte": some continuation of the text up to that token's end fits
+pub record Refused-18 (text : Bytes) (place : ℕ) : Type 0 where
+  pub mark : Mark
+  pub others : List Mark
+  pub more : Bytes
+  pub F : ℕ
+  pub tree : Statement Condition
+  pub fits : Placed (take (mark .upto) text ++ more) F tree others
+  pub is-first : too-many others ≡ some mark
+  pub in-it : mark .upto ≤ length text
+  pub whole : T (whole-in mark text)
+  pub here : mark .from ≡ place
