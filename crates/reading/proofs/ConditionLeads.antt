@@ -114,8 +114,8 @@ module _ (text : Bytes) (F : ℕ) (c₀ c : Cursor) (M : Meets text c₀ c) (g :
                 ∙ subst (λ b. begin w (want F conditions h) b ≡ none) e (none-begins w F conditions h b (λ d. refl)
                 (ne-eqb b 116 n1, (ne-eqb b 102 n2, (ne-eqb b 110 n3, (ne-eqb b 40 n4, no-option w F h b n5)))));
             no-end = λ i. absurd (omega (arith, i, M .faces .before-end l));
-            no-limit = none-limits text (c .at + 0) (refused-17 (c .at)) (too-many (reverse (w .marks)))
-                (within-limits (w .marks) (omega (arith, k .nodes-are, g .few-nodes)) (omega (arith, k .records-are, g .few-records)));
+            no-limit = none-limits text (c .at + 0) (refused-17 (c .at)) (too-many (reverse (w .spots)))
+                (within-limits (w .spots) (omega (arith, k .nodes-are, g .few-nodes)) (omega (arith, k .records-are, g .few-records)));
           })));
       opened = record { kept = record { node-kept = M .opened .kept .node-kept; condition-kept = M .opened .kept .condition-kept }; nodes-opened = λ i. absurd (omega (arith, i)); records-opened = λ i. absurd (omega (arith, i)) };
       further = λ i. absurd (omega (arith, i));

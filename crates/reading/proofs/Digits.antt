@@ -11,7 +11,7 @@ use lib.ListN.{length, drop, getD, drop-of-length-le, length-drop}
 use lib.Seq.{drop-cons}
 use Rattle.image.specs.Bytes.{Bytes}
 use Rattle.written.specs.Byte.{is-space, is-digit, is-run}
-use Rattle.written.specs.Token.{Opens, Mark}
+use Rattle.written.specs.Token.{Opens, Spot}
 use Rattle.written.specs.Machine.{Stack, Log, Begun, behind, plain, first, digits, when, between-by, between, digits-by, first-fits, first-step, low, step, final}
 use Rattle.written.specs.Limits.{NODES, RECORDS, too-many, runs-on}
 use Rattle.written.specs.Answer.{so-far, refused-17}
@@ -122,19 +122,19 @@ module _ (text : Bytes) (w : Log) (o : Opens) (hi : ℕ) (f : ℕ → Stack) whe
 
   -- ---- behind the last digit
 
-  module _ (few-nodes : nodes-in (w .marks) ≤ NODES) (few-records : records-in (w .marks) ≤ RECORDS) where
+  module _ (few-nodes : nodes-in (w .spots) ≤ NODES) (few-records : records-in (w .spots) ≤ RECORDS) where
     -- a letter or digit behind it: Refusal 17
     pub run-on : (v at : ℕ) → at < length text → goes-on hi v (getD text at 0) ≡ false → is-run (getD text at 0) ≡ true
         → from text (drop at text) (digits (begun-at w o at) v hi f) at ≡ refused-17 at
     unfolding step final so-far between
     run-on v at h g r =
         let B : Begun = begun-at w o at in
-        let m : Mark = record { does = o; is-word = true; from = w .at; upto = at + 0 } in
+        let m : Spot = record { does = o; is-word = true; from = w .at; upto = at + 0 } in
         stuck text (digits B v hi f) at (record {
           inside = omega arith;
           no-step = λ k. by (is-digit (getD text at 0)) refl;
           no-end = λ k. absurd (omega arith);
-          no-limit = not-yet text (at + 0) (refused-17 at) m (too-many (reverse (m ∷ w .marks))) (it-or-none (w .marks) few-nodes few-records m) (not-whole (leb (at + 0) (at + 0)));
+          no-limit = not-yet text (at + 0) (refused-17 at) m (too-many (reverse (m ∷ w .spots))) (it-or-none (w .spots) few-nodes few-records m) (not-whole (leb (at + 0) (at + 0)));
         })
       where
         by : (u : Bool) → is-digit (getD text at 0) ≡ u → digits-by (begun-at w o at) u v hi f (getD text at 0) ≡ none
@@ -170,7 +170,7 @@ module _ (text : Bytes) (w : Log) (o : Opens) (p : Bool) (hi : ℕ) (f : ℕ →
       steps text (first (begun-at w o at) p hi f) (digits (begun-at w o (suc at)) (getD text at 0 - 48) (low p + hi) f) at h
       (ap (λ u. when u (digits (begun-at w o (suc at)) (getD text at 0 - 48) (low p + hi) f)) e)
 
-  pub no-first : (at : ℕ) → nodes-in (w .marks) ≤ NODES → records-in (w .marks) ≤ RECORDS → at ≤ length text
+  pub no-first : (at : ℕ) → nodes-in (w .spots) ≤ NODES → records-in (w .spots) ≤ RECORDS → at ≤ length text
       → (at < length text → first-fits p hi (getD text at 0) ≡ false) → from text (drop at text) (first (begun-at w o at) p hi f) at ≡ refused-17 at
   unfolding step first-step final so-far
   no-first at n r h e =
@@ -178,5 +178,5 @@ module _ (text : Bytes) (w : Log) (o : Opens) (p : Bool) (hi : ℕ) (f : ℕ →
         inside = h;
         no-step = λ k. ap (λ u. when u (digits (begun-at w o (suc at)) (getD text at 0 - 48) (low p + hi) f)) (e k);
         no-end = λ k. refl;
-        no-limit = none-limits text (at + 0) (refused-17 at) (too-many (reverse (w .marks))) (within-limits (w .marks) n r);
+        no-limit = none-limits text (at + 0) (refused-17 at) (too-many (reverse (w .spots))) (within-limits (w .spots) n r);
       })

@@ -39,7 +39,7 @@ module _ (text : Bytes) (c d : Cursor) (g : Good text c) (e : d ≡ passed text 
   good : Good text d
   good = way nothing-read .good
 
-  few : (w : Log) → Logged d w → (nodes-in (w .marks) ≤ NODES) × (records-in (w .marks) ≤ RECORDS)
+  few : (w : Log) → Logged d w → (nodes-in (w .spots) ≤ NODES) × (records-in (w .spots) ≤ RECORDS)
   few w k = (omega (arith, k .nodes-are, good .few-nodes), omega (arith, k .records-are, good .few-records))
 
   kept : Live d → (d .node ≡ c .node) × (d .condition ≡ c .condition)
@@ -55,17 +55,17 @@ module _ (text : Bytes) (c d : Cursor) (g : Good text c) (e : d ≡ passed text 
   }
 
   -- the text ends
-  at-end : (w : Log) (R : Reading) → Live d → Logged d w → d .at ≡ length text → here text d w (done R) ≡ gives (record { reading = R; placed = reverse (w .marks) })
+  at-end : (w : Log) (R : Reading) → Live d → Logged d w → d .at ≡ length text → here text d w (done R) ≡ gives (record { reading = R; placed = reverse (w .spots) })
   unfolding from last reach go final so-far
   at-end w R l k h =
       let all : length text ≤ d .at = omega (arith, h) in
       here-live text d w (done R) l
       ∙ ap (λ m. from text m (plain w [] (d .tight) (done R)) (d .at)) (drop-of-length-le text all)
-      ∙ none-limits text (d .at + 0) (gives (record { reading = R; placed = reverse (w .marks) })) (too-many (reverse (w .marks))) (within-limits (w .marks) (few w k .0) (few w k .1))
+      ∙ none-limits text (d .at + 0) (gives (record { reading = R; placed = reverse (w .spots) })) (too-many (reverse (w .spots))) (within-limits (w .spots) (few w k .0) (few w k .1))
 
   pub end-here : d .refused ≡ 0 → d .at ≡ length text → EndWay text c d
   end-here l h = record {
-    ends = λ w R k i. let x = way R .goes w k in (reverse (x .0 .marks), x .2 ∙ at-end (x .0) R l (x .1 l) h);
+    ends = λ w R k i. let x = way R .goes w k in (reverse (x .0 .spots), x .2 ∙ at-end (x .0) R l (x .1 l) h);
     wrong = λ w R k r. absurd (omega (arith, l, r));
     many = λ w R k i j. absurd (i l);
     was-live = λ i. way nothing-read .was-live i;
@@ -82,7 +82,7 @@ module _ (text : Bytes) (c d : Cursor) (g : Good text c) (e : d ≡ passed text 
         inside = good .inside;
         no-step = λ j. ap (λ u. between-by w u (d .tight && is-wordy (getD text (d .at) 0)) (done R) (getD text (d .at) 0)) (P .stops l i) ∙ shut (d .tight && is-wordy (getD text (d .at) 0));
         no-end = λ j. absurd (omega (arith, i, j));
-        no-limit = none-limits text (d .at + 0) (refused-17 (d .at)) (too-many (reverse (w .marks))) (within-limits (w .marks) (few w k .0) (few w k .1));
+        no-limit = none-limits text (d .at + 0) (refused-17 (d .at)) (too-many (reverse (w .spots))) (within-limits (w .spots) (few w k .0) (few w k .1));
       })
     where
       shut : (v : Bool) → between-by w false v (done R) (getD text (d .at) 0) ≡ none

@@ -12,7 +12,7 @@ use borrow.Author.Tests.{ne-eqb, eqb-true, lt-leb}
 use Rattle.imp.specs.Condition.{Condition}
 use Rattle.imp.specs.Routine.{Statement, throw, try}
 use Rattle.image.specs.Bytes.{Bytes}
-use Rattle.written.specs.Token.{node, Mark}
+use Rattle.written.specs.Token.{node, Spot}
 use Rattle.written.specs.Word.{THROW, TRY, CATCH, WITH}
 use Rattle.written.specs.Machine.{statements, arithmetics, variables, Stack, mark, want, Log, noted, begin, State, plain, fork, when, found, look, leads, forks, step, final}
 use Rattle.written.specs.Limits.{NODES, RECORDS, too-many, whole-in}
@@ -74,22 +74,22 @@ module _ (text : Bytes) (c : Cursor) (l : Live c) (g : Good text c) (faces : Fac
     unfolding step look forks final so-far
     neither w k n =
         let at : ℕ = suc (c .at) in
-        let few : nodes-in (w .marks) ≤ NODES = omega (arith, k .nodes-are, g .few-nodes) in
-        let rare : records-in (w .marks) ≤ RECORDS = omega (arith, k .records-are, g .few-records) in
-        let m : Mark = record { does = node; is-word = true; from = w .at; upto = w .at + 3 } in
+        let few : nodes-in (w .spots) ≤ NODES = omega (arith, k .nodes-are, g .few-nodes) in
+        let rare : records-in (w .spots) ≤ RECORDS = omega (arith, k .records-are, g .few-records) in
+        let m : Spot = record { does = node; is-word = true; from = w .at; upto = w .at + 3 } in
         stuck text (fork w F f) at (record {
           inside = omega (arith, faces .before-end l);
           no-step = λ i. ap₂ (λ u v. found u (plain (noted w node true (w .at + 5)) (114 ∷ 111 ∷ 119 ∷ []) true (want F arithmetics λ a. f (throw a)))
               (found v (plain (noted w node true (w .at + 3)) (121 ∷ []) true (want F statements λ x. mark CATCH (want F variables λ v. mark WITH (want F statements λ y. f (try x v y))))) none))
               (ne-eqb second 104 other) n;
           no-end = λ i. refl;
-          no-limit = none-limits text (at + 0) (refused-17 at) (too-many (reverse (w .marks))) (within-limits (w .marks) few rare);
+          no-limit = none-limits text (at + 0) (refused-17 at) (too-many (reverse (w .spots))) (within-limits (w .spots) few rare);
         })
         ∙ sym (stuck text (tried-state w) at (record {
           inside = omega (arith, faces .before-end l);
           no-step = λ i. ap (λ u. when u (plain (noted w node true (w .at + 3)) (121 ∷ []) true tried)) n;
           no-end = λ i. refl;
-          no-limit = not-yet text (at + 0) (refused-17 at) m (too-many (reverse (m ∷ w .marks))) (it-or-none (w .marks) few rare m)
+          no-limit = not-yet text (at + 0) (refused-17 at) m (too-many (reverse (m ∷ w .spots))) (it-or-none (w .spots) few rare m)
               (ap (λ u. u && whole-in m text) (lt-leb (w .at + 3) (at + 0) (omega (arith, k .at-is))));
         }))
 

@@ -192,8 +192,8 @@ module _ (text : Bytes) (class : ℕ) (c₀ c : Cursor) (B : Begins text class c
             inside = B .good .inside;
             no-step = λ i. enters text w (c .tight) (wanted F g) byte (B .faces .no-space l) (B .faces .apart l) ∙ none-fits F g w;
             no-end = λ i. absurd (omega (arith, i, B .faces .before-end l));
-            no-limit = none-limits text (c .at + 0) (refused-17 (c .at)) (too-many (reverse (w .marks)))
-                (within-limits (w .marks) (omega (arith, k .nodes-are, B .good .few-nodes)) (omega (arith, k .records-are, B .good .few-records)));
+            no-limit = none-limits text (c .at + 0) (refused-17 (c .at)) (too-many (reverse (w .spots)))
+                (within-limits (w .spots) (omega (arith, k .nodes-are, B .good .few-nodes)) (omega (arith, k .records-are, B .good .few-records)));
           })));
       opened = record { kept = record { node-kept = B .opened-none .kept .node-kept; condition-kept = B .opened-none .kept .condition-kept }; nodes-opened = λ i. absurd (omega (arith, i)); records-opened = λ i. absurd (omega (arith, i)) };
       further = λ i. absurd (omega (arith, i));

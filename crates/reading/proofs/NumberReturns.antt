@@ -130,7 +130,7 @@ module _ (text : Bytes) (c : Cursor) (at : ℕ) (p : Bool) (hi : ℕ) (o : Opens
       cursor-is = w ∙ ap (λ i. counted-to text c i true o) end-is ∙ to-end false (ap (λ i. is-run (getD text i 0)) (sym end-is) ∙ ap is-run (sym g) ∙ sym h ∙ k);
       value-is = λ j. value;
       small =
-          let q = reads-digits text (record { at = 0; marks = [] }) o (low p + hi) (λ m. done nothing-read) (drop (suc at) text) (getD text at 0 - 48) (suc at) refl (omega arith) in
+          let q = reads-digits text (record { at = 0; spots = [] }) o (low p + hi) (λ m. done nothing-read) (drop (suc at) text) (getD text at 0 - 48) (suc at) refl (omega arith) in
           subst (λ m. m ≤ low p + hi) (sym value) (q .small (subst (λ m. getD text at 0 - 48 ≤ m + hi) l (subst (λ c. c - 48 ≤ lo + hi) e (range-small (b - 48) lo (lo + hi) t))));
       large = λ j. subst (λ m. low p ≤ m) (sym value) (large-here (range-least (b - 48) lo (lo + hi) t));
     }

@@ -11,7 +11,7 @@ use lib.Seq.{drop-cons}
 use borrow.Author.Tests.{leb-true, le-leb}
 use Rattle.image.specs.Bytes.{Bytes}
 use Rattle.written.specs.Byte.{is-run}
-use Rattle.written.specs.Token.{Opens, Mark}
+use Rattle.written.specs.Token.{Opens, Spot}
 use Rattle.written.specs.Machine.{Stack, Log, noted, plain, between-by, between, step, final}
 use Rattle.written.specs.Limits.{NODES, RECORDS, too-many, runs-on}
 use Rattle.written.specs.Answer.{so-far, refused-17, refused-18}
@@ -63,10 +63,10 @@ off-and false v e = refl
 module _ (text : Bytes) (c : Cursor) (l : Live c) (g : Good text c) (end : ℕ) (tight : Bool) (o : Opens) (A S : Stack)
     (forth : c .at < end) (inside : end ≤ length text)
     (read : (w : Log) → Logged c w → from text (drop (c .at) text) (plain w [] (c .tight) A) (c .at) ≡ from text (drop end text) (plain (noted w o tight end) [] tight S) end) where
-  few : (w : Log) → Logged c w → (nodes-in (w .marks) ≤ NODES) × (records-in (w .marks) ≤ RECORDS)
+  few : (w : Log) → Logged c w → (nodes-in (w .spots) ≤ NODES) × (records-in (w .spots) ≤ RECORDS)
   few w k = (omega (arith, k .nodes-are, g .few-nodes), omega (arith, k .records-are, g .few-records))
 
-  abbrev own : Log → Mark
+  abbrev own : Log → Spot
   own w = record { does = o; is-word = tight; from = w .at; upto = end }
 
   -- it goes on: Refusal 17 at the letter or digit behind it
@@ -81,7 +81,7 @@ module _ (text : Bytes) (c : Cursor) (l : Live c) (g : Good text c) (end : ℕ) 
         no-step = λ i. ap₂ (λ u v. between-by (noted w o tight end) u v S (getD text end 0)) (space-no-run (getD text end 0) (t .1))
             (ap₂ _&&_ (t .0) (ap (λ u. u || eqb (getD text end 0) 45) (t .1)));
         no-end = λ i. absurd (omega (arith, i, run-inside text end inside (t .1)));
-        no-limit = not-yet text (end + 0) (refused-17 end) (own w) (too-many (reverse (own w ∷ w .marks))) (it-or-none (w .marks) (n .0) (n .1) (own w))
+        no-limit = not-yet text (end + 0) (refused-17 end) (own w) (too-many (reverse (own w ∷ w .spots))) (it-or-none (w .spots) (n .0) (n .1) (own w))
             (off-and (leb end (end + 0)) (tight && runs-on (drop end text)) (ap₂ _&&_ (t .0) r));
       })
 
@@ -93,7 +93,7 @@ module _ (text : Bytes) (c : Cursor) (l : Live c) (g : Good text c) (end : ℕ) 
       let n = few w k in
       let whole : T (not (tight && runs-on (drop end text))) = off (tight && runs-on (drop end text)) (ap (λ u. tight && u) (runs-at text end inside) ∙ e) in
       from-over text (drop end text) (plain (noted w o tight end) [] tight S) end (own w) (omega arith) (omega arith) whole whole
-      (breaks (w .marks) (n .0) (n .1) (own w) (λ i j. broken (leb (c .nodes + node-of o) NODES) (leb (c .records + record-in o) RECORDS) f
+      (breaks (w .spots) (n .0) (n .1) (own w) (λ i j. broken (leb (c .nodes + node-of o) NODES) (leb (c .records + record-in o) RECORDS) f
       (le-leb (c .nodes + node-of o) NODES (omega (arith, i, k .nodes-are))) (le-leb (c .records + record-in o) RECORDS (omega (arith, j, k .records-are)))))
       ∙ ap refused-18 (k .at-is)
     where

@@ -11,7 +11,7 @@ use lib.Seq.{drop-cons}
 use borrow.Author.Tests.{eq-eqb, ne-eqb, eqb-true, eqb-false}
 use Rattle.image.specs.Bytes.{Bytes}
 use Rattle.written.specs.Byte.{is-space, is-wordy}
-use Rattle.written.specs.Token.{nothing, Mark}
+use Rattle.written.specs.Token.{nothing, Spot}
 use Rattle.written.specs.Word.{RIGHT}
 use Rattle.written.specs.Machine.{Stack, done, mark, want, Log, plain, between-by, between, step, ended, final}
 use Rattle.written.specs.Limits.{too-many}
@@ -26,12 +26,12 @@ use Rattle.reading.proofs.Counts.{within-limits, none-limits}
 use Rattle.reading.proofs.Tokens.{nothing-read, stuck}
 use Rattle.reading.proofs.Ways.{then, refused-stays, to-place, to-17}
 
-abbrev log : ℕ → List Mark → Log
-log at marks = record { at = at; marks = marks }
+abbrev log : ℕ → List Spot → Log
+log at marks = record { at = at; spots = marks }
 
 -- ---- the machine
 
-module _ (text : Bytes) (ms : List Mark) (s : Stack) where
+module _ (text : Bytes) (ms : List Spot) (s : Stack) where
   record SpacesRead (g : Bool) (at n : ℕ) : Type 0 where
     inside : at + n ≤ length text
     on : from text (drop at text) (plain (log at ms) [] g s) at ≡ from text (drop (at + n) text) (plain (log (at + n) ms) [] (g && eqb n 0) s) (at + n)
@@ -93,9 +93,9 @@ module _ (text : Bytes) where
     count : ℕ
     count = spaces-in (drop (c .at) text)
 
-    spaced : (w : Log) (s : Stack) → SpacesRead text (w .marks) s (c .tight) (c .at) count
+    spaced : (w : Log) (s : Stack) → SpacesRead text (w .spots) s (c .tight) (c .at) count
     unfolding count
-    spaced w s = reads-spaces text (w .marks) s (drop (c .at) text) (c .tight) (c .at) refl (g .inside)
+    spaced w s = reads-spaces text (w .spots) s (drop (c .at) text) (c .tight) (c .at) refl (g .inside)
 
     live-passes : Live c → Passes text c (moved-to c (c .at + count) (c .tight && eqb (c .at + count) (c .at)))
     live-passes l =
@@ -105,11 +105,11 @@ module _ (text : Bytes) where
         record {
           way = λ s. to-place text c c′ s l (omega arith) (record { inside = in-text; few-nodes = g .few-nodes; few-records = g .few-records }) s l
               (λ w k. (
-                log (c .at + count) (w .marks),
+                log (c .at + count) (w .spots),
                 record { at-is = refl; nodes-are = k .nodes-are; records-are = k .records-are },
-                ap (λ i. from text (drop (c .at) text) (plain (log i (w .marks)) [] (c .tight) s) (c .at)) (k .at-is)
+                ap (λ i. from text (drop (c .at) text) (plain (log i (w .spots)) [] (c .tight) s) (c .at)) (k .at-is)
                     ∙ spaced w s .on
-                    ∙ ap (λ u. from text (drop (c .at + count) text) (plain (log (c .at + count) (w .marks)) [] (c .tight && u) s) (c .at + count)) (same-place (c .at) count),
+                    ∙ ap (λ u. from text (drop (c .at + count) text) (plain (log (c .at + count) (w .spots)) [] (c .tight && u) s) (c .at + count)) (same-place (c .at) count),
               ));
           opened = record { kept = record { node-kept = refl; condition-kept = refl }; nodes-opened = λ i. omega arith; records-opened = λ i. omega arith };
           stops = λ i j. spaced none-yet (done nothing-read) .stops j;
@@ -146,8 +146,8 @@ module _ (text : Bytes) where
         inside = g .inside;
         no-step = λ i. ap₂ (λ u v. between-by w u v A (getD text (d .at) 0)) (n i) (t i);
         no-end = λ i. e w;
-        no-limit = none-limits text (d .at + 0) (refused-17 (d .at)) (too-many (reverse (w .marks)))
-            (within-limits (w .marks) (omega (arith, k .nodes-are, g .few-nodes)) (omega (arith, k .records-are, g .few-records)));
+        no-limit = none-limits text (d .at + 0) (refused-17 (d .at)) (too-many (reverse (w .spots)))
+            (within-limits (w .spots) (omega (arith, k .nodes-are, g .few-nodes)) (omega (arith, k .records-are, g .few-records)));
       }))
 
   module _ (c : Cursor) (g : Good text c) where

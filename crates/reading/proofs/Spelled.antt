@@ -12,7 +12,7 @@ use lib.Seq.{drop-cons}
 use borrow.Author.Tests.{ltb-true, ltb-false, lt-leb, lt-ltb, eqb-true}
 use Rattle.image.specs.Bytes.{Bytes}
 use Rattle.written.specs.Byte.{is-run, is-wordy}
-use Rattle.written.specs.Token.{Lexeme, Opens, Mark}
+use Rattle.written.specs.Token.{Lexeme, Opens, Spot}
 use Rattle.written.specs.Machine.{Stack, Log, noted, lexed, begin, plain, first, digits, low, first-fits, final}
 use Rattle.written.specs.Limits.{NODES, RECORDS, too-many, whole-in}
 use Rattle.written.specs.Answer.{so-far, limited, Answer, refused-17}
@@ -29,10 +29,10 @@ use Rattle.reading.proofs.Opening.{run-inside, counts}
 use Rattle.reading.proofs.Ways.{to-17}
 
 module _ (text : Bytes) (c : Cursor) (l : Live c) (g : Good text c) (A : Stack) where
-  few-nodes : (w : Log) → Logged c w → nodes-in (w .marks) ≤ NODES
+  few-nodes : (w : Log) → Logged c w → nodes-in (w .spots) ≤ NODES
   few-nodes w k = omega (arith, k .nodes-are, g .few-nodes)
 
-  few-records : (w : Log) → Logged c w → records-in (w .marks) ≤ RECORDS
+  few-records : (w : Log) → Logged c w → records-in (w .spots) ≤ RECORDS
   few-records w k = omega (arith, k .records-are, g .few-records)
 
   abbrev start : Log → Answer
@@ -77,7 +77,7 @@ module _ (text : Bytes) (c : Cursor) (l : Live c) (g : Good text c) (A : Stack) 
           inside = g .inside;
           no-step = λ i. enters text w (c .tight) A (getD text (c .at) 0) (f .no-space l) (f .apart l) ∙ miss w e;
           no-end = λ i. absurd (omega (arith, i, f .before-end l));
-          no-limit = none-limits text (c .at + 0) (refused-17 (c .at)) (too-many (reverse (w .marks))) (within-limits (w .marks) (few-nodes w k) (few-records w k));
+          no-limit = none-limits text (c .at + 0) (refused-17 (c .at)) (too-many (reverse (w .spots))) (within-limits (w .spots) (few-nodes w k) (few-records w k));
         })
         ∙ ap refused-17 (omega arith))
 
@@ -87,7 +87,7 @@ module _ (text : Bytes) (c : Cursor) (l : Live c) (g : Good text c) (A : Stack) 
     abbrev end : Log → ℕ
     end w = w .at + suc (length (x .rest))
 
-    abbrev own : Log → Mark
+    abbrev own : Log → Spot
     own w = record { does = o; is-word = wordy; from = w .at; upto = end w }
 
     spelled : (w : Log) (j : ℕ) → getD text (c .at) 0 ≡ x .head → WordRead text (x .rest) (noted w o wordy (end w)) wordy S (suc (c .at)) j
@@ -101,9 +101,9 @@ module _ (text : Bytes) (c : Cursor) (l : Live c) (g : Good text c) (A : Stack) 
               entered w k e ∙ r .whole h ∙ ap₂ (λ i n. from text (drop i text) (plain (noted w o wordy n) [] wordy S) i) q u),
         )
       where
-        unended : (w : Log) → Logged c w → (p : ℕ) → p < end w → limited (too-many (reverse (own w ∷ w .marks))) text (p + 0) (refused-17 p) ≡ refused-17 p
+        unended : (w : Log) → Logged c w → (p : ℕ) → p < end w → limited (too-many (reverse (own w ∷ w .spots))) text (p + 0) (refused-17 p) ≡ refused-17 p
         unended w k p h =
-            not-yet text (p + 0) (refused-17 p) (own w) (too-many (reverse (own w ∷ w .marks))) (it-or-none (w .marks) (few-nodes w k) (few-records w k) (own w))
+            not-yet text (p + 0) (refused-17 p) (own w) (too-many (reverse (own w ∷ w .spots))) (it-or-none (w .spots) (few-nodes w k) (few-records w k) (own w))
             (ap (λ u. u && whole-in (own w) text) (lt-leb (end w) (p + 0) (omega (arith, h))))
 
     -- behind the first byte
@@ -112,7 +112,7 @@ module _ (text : Bytes) (c : Cursor) (l : Live c) (g : Good text c) (A : Stack) 
     behind-first j e r = by (ltb (suc j) (suc (length (x .rest)))) refl
       where
         none-yet : Log
-        none-yet = record { at = 0; marks = [] }
+        none-yet = record { at = 0; spots = [] }
 
         inside : c .at + suc j ≤ length text
         inside = omega (arith, r none-yet .inside)
@@ -165,7 +165,7 @@ module _ (text : Bytes) (c : Cursor) (l : Live c) (g : Good text c) (A : Stack) 
     to-last w k e = begins w k ∙ first-digit text w o p hi f a (in-text e) e ∙ digits-read w (in-text e) .on
 
     none-yet : Log
-    none-yet = record { at = 0; marks = [] }
+    none-yet = record { at = 0; spots = [] }
 
     pub number-leads : Leads (f (value-at text a p hi)) o (number-to text c a p hi o)
     unfolding number-to end-at

@@ -69,7 +69,7 @@ module _ (text : Bytes) where
     pub inside : at + j ≤ length text
     pub most : j ≤ length x
     pub whole : j ≡ length x → from text (drop at text) (plain w x g s) at ≡ from text (drop (at + j) text) (plain w [] g s) (at + j)
-    pub short : j < length x → ((p : ℕ) → p < at + length x → limited (too-many (reverse (w .marks))) text (p + 0) (refused-17 p) ≡ refused-17 p)
+    pub short : j < length x → ((p : ℕ) → p < at + length x → limited (too-many (reverse (w .spots))) text (p + 0) (refused-17 p) ≡ refused-17 p)
         → from text (drop at text) (plain w x g s) at ≡ refused-17 (at + j)
 
   moved : (q : State) (i j : ℕ) → i ≡ j → from text (drop i text) q i ≡ from text (drop j text) q j
@@ -128,4 +128,4 @@ module _ (text : Bytes) where
 
 -- what a text agrees with stands in it
 pub agree-inside : (text x : Bytes) (at : ℕ) → at ≤ length text → at + agree x (drop at text) ≤ length text
-agree-inside text x at h = reads-word text (record { at = 0; marks = [] }) false (done nothing-read) x at h .inside
+agree-inside text x at h = reads-word text (record { at = 0; spots = [] }) false (done nothing-read) x at h .inside

@@ -33,7 +33,7 @@ pub start-good : (text : Bytes) → Good text at-start
 start-good text = record { inside = omega arith; few-nodes = omega arith; few-records = omega arith }
 
 none-yet : Log
-none-yet = record { at = 0; marks = [] }
+none-yet = record { at = 0; spots = [] }
 
 start-logged : Logged at-start none-yet
 unfolding none-yet nodes-in records-in

@@ -1,16 +1,9 @@
 -- What is read of a stream, and what is told of it. That `read` hands out the bytes of a stream in order is all that is assumed.
 use mathlib.Core.Path.{_≡_}
-use Prim.Native.Nat.{ℕ, _≤_}
+use Prim.Native.Nat.{ℕ}
 use lib.ListN.{length, take}
 use Rattle.image.specs.Bytes.{Bytes}
 use Rattle.lines.specs.Text.{text}
-use Rattle.report.specs.declared.Reading.{Reading}
-use Rattle.report.specs.declared.Reading.the-variants.{Got, Failed}
-
--- how many bytes were read into a space of so many
-abbrev pub Within : ℕ → Reading → Type 0
-Within space (Got n) = n ≤ space
-Within space Failed = Unit {0}
 
 -- "it reads no more than 9,237 bytes": whatever stream the n bytes of `input` were read from, until its end or until `input` was full, these are its text
 pub record Tells (input : Bytes) (n : ℕ) (told : Bytes) : Type 0 where

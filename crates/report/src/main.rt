@@ -1,57 +1,23 @@
 // The report program: reads standard input, no more than 9,237 bytes, and writes the text that `lines` makes of it. Nothing else.
+ghost use mathlib.Core.Path.{_≡_};
 ghost use Prim.Native.Nat.{_≤_};
 ghost use lib.ListN.{length, take};
 ghost use Rattle.lines.specs.Limits.{most, enough};
-ghost use Rattle.report.specs.Stream.{Within, Tells};
+ghost use Rattle.report.specs.Stream.{Tells};
 use libc::STDERR_FILENO;
-use libc::STDIN_FILENO;
 use libc::STDOUT_FILENO;
 use lines::ENOUGH;
 use lines::Report;
 use lines::report;
+use streams::Input;
+use streams::take;
 
 // "one beyond the longest possible input"
 const MOST: usize = 9237;
 
-enum Reading {
-    Got(usize),
-    Failed,
-}
-
-// One read: no bytes at the end of the input.
-fn read_once(part: &mut [u8]) -> Reading
-    ensures { λ r. ⌜ Within (length (now (part .exit))) r ⌝ }
-{
-    let got = libc::read(STDIN_FILENO, part);
-    if got < 0 {
-        return Reading::Failed;
-    }
-    Reading::Got(io::count(got, part))
-}
-
-// "it reads no more than 9,237 bytes": until the input ends or `space` is full, whichever is first.
-fn read(space: &mut [u8]) -> Reading
-    requires { ⌜ length (now space) ≤ most ⌝ }
-    ensures { λ r. ⌜ Within (length (now (space .exit))) r ⌝ }
-{
-    let mut done: usize = 0;
-    while done < space.len() {
-        match read_once(&mut space[done..]) {
-            Reading::Failed => return Reading::Failed,
-            Reading::Got(more) => {
-                if more == 0 {
-                    return Reading::Got(done);
-                }
-                done += more;
-            }
-        }
-    }
-    Reading::Got(done)
-}
-
 // The text of what was read, at the start of `space`, and its length. It is never short: every text fits.
 fn tell(input: &[u8], n: usize, space: &mut [u8]) -> usize
-    requires { ⌜ most ≤ length (now input) ⌝ }
+    requires { ⌜ length (now input) ≡ most ⌝ }
     requires { ⌜ n ≤ length (now input) ⌝ }
     requires { ⌜ enough ≤ length (now space) ⌝ }
     ensures { λ r. ⌜ r ≤ length (now (space .exit)) ⌝ }
@@ -70,18 +36,26 @@ fn write(input: &[u8], n: usize, text: &[u8]) -> bool
     io::write_all(STDOUT_FILENO, text)
 }
 
+// The stream that n bytes were read of.
+fn answer_to(input: &[u8], n: usize)
+    requires { ⌜ length (now input) ≡ most ⌝ }
+    requires { ⌜ n ≤ length (now input) ⌝ }
+{
+    let mut space = [0u8; ENOUGH];
+    let end = tell(input, n, &mut space);
+    if !write(input, n, &space[..end]) {
+        io::write_all(STDERR_FILENO, b"report: the text cannot be written\n");
+    }
+}
+
+// "it reads no more than 9,237 bytes"
 fn main() {
     let mut input = [0u8; MOST];
-    let mut space = [0u8; ENOUGH];
-    match read(&mut input) {
-        Reading::Failed => {
+    match take(&mut input) {
+        Input::Whole(n) => answer_to(&input, n),
+        Input::Full => answer_to(&input, MOST),
+        Input::Failed => {
             io::write_all(STDERR_FILENO, b"report: the input cannot be read\n");
-        }
-        Reading::Got(n) => {
-            let end = tell(&input, n, &mut space);
-            if !write(&input, n, &space[..end]) {
-                io::write_all(STDERR_FILENO, b"report: the text cannot be written\n");
-            }
         }
     }
 }

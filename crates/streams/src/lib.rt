@@ -1,4 +1,4 @@
-// What the programs `reader` and `lister` share: standard input read whole into a space, and a refusal said on standard error.
+// What the programs share: standard input read into a space, to its end or until that is full, and a refusal said on standard error.
 ghost use mathlib.Core.Path.{_≡_};
 ghost use Prim.Native.Nat.{_≤_};
 ghost use lib.ListN.{length};

@@ -5,16 +5,16 @@ use mathlib.Core.List.{List, [], _∷_, reverse}
 use mathlib.Core.Option.{Option, none, some}
 use lib.Dec.{leb}
 use Rattle.image.specs.Bytes.{Bytes}
-use Rattle.written.specs.Token.{Mark}
+use Rattle.written.specs.Token.{Spot}
 use Rattle.written.specs.Machine.{Result, behind, State, plain, fork, first, digits, step, start, Outcome, read, refused, outcome}
 use Rattle.written.specs.Limits.{too-many, whole-in}
 
--- the marks of the tokens that may have ended by now, the last first
-unfoldable pub so-far : State → List Mark
-so-far (plain w x g s) = w .marks
-so-far (fork w F f) = w .marks
-so-far (first B p hi f) = B .log .marks
-so-far (digits B n hi f) = (behind B (B .now + 0)) .marks
+-- the spots of the tokens that may have ended by now, the last first
+unfoldable pub so-far : State → List Spot
+so-far (plain w x g s) = w .spots
+so-far (fork w F f) = w .spots
+so-far (first B p hi f) = B .log .spots
+so-far (digits B n hi f) = (behind B (B .now + 0)) .spots
 
 abbrev pub or-stay : State → Option State → (State → State) → State
 or-stay q none on = q
@@ -43,11 +43,11 @@ abbrev pub within : Outcome → Answer
 within (read R) = gives R
 within (refused p) = refused-17 p
 
-abbrev pub by-whole : Bool → Mark → Answer → Answer
+abbrev pub by-whole : Bool → Spot → Answer → Answer
 by-whole true m a = refused-18 (m .from)
 by-whole false m a = a
 
-abbrev pub limited : Option Mark → Bytes → ℕ → Answer → Answer
+abbrev pub limited : Option Spot → Bytes → ℕ → Answer → Answer
 limited none text n a = a
 limited (some m) text n a = by-whole (leb (m .upto) n && whole-in m text) m a
 

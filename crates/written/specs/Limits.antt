@@ -10,7 +10,7 @@ use Rattle.imp.specs.Condition.{Condition}
 use Rattle.imp.specs.Routine.{Statement}
 use Rattle.image.specs.Bytes.{Bytes}
 use Rattle.written.specs.Byte.{is-run}
-use Rattle.written.specs.Token.{Opens, nothing, node, record-of, Mark}
+use Rattle.written.specs.Token.{Opens, nothing, node, record-of, Spot}
 use Rattle.written.specs.Grammar.{Placed}
 
 -- "1,024 nodes and 256 conditions": node 1,025 and condition 257 are too many
@@ -20,7 +20,7 @@ NODES = 1024
 abbrev pub RECORDS : ℕ
 RECORDS = 256
 
-abbrev pub over-by : Opens → ℕ → ℕ → Mark → (ℕ → ℕ → Option Mark) → Option Mark
+abbrev pub over-by : Opens → ℕ → ℕ → Spot → (ℕ → ℕ → Option Spot) → Option Spot
 over-by nothing n k m on = on n k
 over-by node zero k m on = some m
 over-by node (suc n) k m on = on n k
@@ -28,11 +28,11 @@ over-by record-of n zero m on = some m
 over-by record-of n (suc k) m on = on n k
 
 -- the first token that opens a node past n or a condition past k
-unfoldable pub over : ℕ → ℕ → List Mark → Option Mark
+unfoldable pub over : ℕ → ℕ → List Spot → Option Spot
 over n k [] = none
 over n k (m ∷ ms) = over-by (m .does) n k m λ n k. over n k ms
 
-abbrev pub too-many : List Mark → Option Mark
+abbrev pub too-many : List Spot → Option Spot
 too-many ms = over NODES RECORDS ms
 
 -- the text begins with a letter or digit
@@ -40,19 +40,19 @@ abbrev pub runs-on : Bytes → Bool
 runs-on [] = false
 runs-on (b ∷ l) = is-run b
 
--- the token ends in the text where its mark says: no word or number of it goes on
-abbrev pub whole-in : Mark → Bytes → Bool
+-- the token ends in the text where its spot says: no word or number of it goes on
+abbrev pub whole-in : Spot → Bytes → Bool
 whole-in m text = not (m .is-word && runs-on (drop (m .upto) text))
 
 -- "18 a whole word, number or bracket that opens node 1,025 or condition 257, at its first byte": some continuation of the text up to that token's end fits
 pub record Refused-18 (text : Bytes) (place : ℕ) : Type 0 where
-  pub mark : Mark
-  pub others : List Mark
+  pub spot : Spot
+  pub others : List Spot
   pub more : Bytes
   pub F : ℕ
   pub tree : Statement Condition
-  pub fits : Placed (take (mark .upto) text ++ more) F tree others
-  pub is-first : too-many others ≡ some mark
-  pub in-it : mark .upto ≤ length text
-  pub whole : T (whole-in mark text)
-  pub here : mark .from ≡ place
+  pub fits : Placed (take (spot .upto) text ++ more) F tree others
+  pub is-first : too-many others ≡ some spot
+  pub in-it : spot .upto ≤ length text
+  pub whole : T (whole-in spot text)
+  pub here : spot .from ≡ place

@@ -10,7 +10,7 @@ use Rattle.imp.specs.Routine.{Arithmetic, number, variable, sum, pick, choice�
 use Rattle.image.specs.Bytes.{Bytes}
 use Rattle.written.specs.Byte.{is-space, is-digit, is-wordy}
 use lib.ListN.{length}
-use Rattle.written.specs.Token.{Lexeme, Opens, nothing, node, record-of, Mark, LAST-VARIABLE, MOST-OPTIONS, HIGHEST}
+use Rattle.written.specs.Token.{Lexeme, Opens, nothing, node, record-of, Spot, LAST-VARIABLE, MOST-OPTIONS, HIGHEST}
 use Rattle.written.specs.Word.{OPTIONS, SKIP, IF, THEN, ELSE, WHILE, DO, THROW, TRY, CATCH, WITH, TRUE, FALSE, NOT, BOTH, PICK, AND, OR, GETS, LEFT, RIGHT, PLUS, BELOW, BRACE, SEMI, UNBRACE, ASK, COLON, BRACKET, UNBRACKET}
 
 -- ---- what is still to come
@@ -41,10 +41,10 @@ pub data Stack : Type 0 where
 
 -- ---- what has been read
 
--- a place, and the marks of the tokens before it, the last first
+-- a place, and the spots of the tokens before it, the last first
 pub record Log : Type 0 where
   pub at : ℕ
-  pub marks : List Mark
+  pub spots : List Spot
 
 -- a token that is a decimal, from the log's place on, and the place that the reading has come to
 pub record Begun : Type 0 where
@@ -54,7 +54,7 @@ pub record Begun : Type 0 where
 
 -- behind a token
 abbrev pub noted : Log → Opens → Bool → ℕ → Log
-noted w o g upto = record { at = upto; marks = record { does = o; is-word = g; from = w .at; upto = upto } ∷ w .marks }
+noted w o g upto = record { at = upto; spots = record { does = o; is-word = g; from = w .at; upto = upto } ∷ w .spots }
 
 abbrev pub behind : Begun → ℕ → Log
 behind B upto = noted (B .log) (B .does) true upto
@@ -202,7 +202,7 @@ begin w (mark x s) b = when (eqb b (x .head)) (lexed w nothing x s)
 begin w (want F k f) b = begin-class w (is-digit b) F k f b
 
 abbrev pub past-space : Log → Log
-past-space w = record { at = suc (w .at); marks = w .marks }
+past-space w = record { at = suc (w .at); spots = w .spots }
 
 abbrev pub between-by : Log → Bool → Bool → Stack → ℕ → Option State
 between-by w true shut s b = some (plain (past-space w) [] false s)
@@ -230,10 +230,10 @@ step (digits B n hi f) b = digits-by B (is-digit b) n hi f b
 -- what a reading gives, and where its tokens stand
 pub record Result : Type 0 where
   pub reading : Reading
-  pub placed : List Mark
+  pub placed : List Spot
 
 abbrev pub ended : Log → Stack → Option Result
-ended w (done r) = some (record { reading = r; placed = reverse (w .marks) })
+ended w (done r) = some (record { reading = r; placed = reverse (w .spots) })
 ended w (mark x s) = none
 ended w (want F k f) = none
 
@@ -247,7 +247,7 @@ final (digits B n hi f) = ended (behind B (B .now + 0)) (f n)
 
 -- before a text
 unfoldable pub start : State
-start = plain (record { at = 0; marks = [] }) [] false (mark OPTIONS (want 0 counts λ F. want F statements λ t. done (record { options = F; tree = t })))
+start = plain (record { at = 0; spots = [] }) [] false (mark OPTIONS (want 0 counts λ F. want F statements λ t. done (record { options = F; tree = t })))
 
 -- F and the tree, or the place of Refusal 17
 pub data Outcome : Type 0 where

@@ -89,19 +89,19 @@ Spells (number (pos n)) l = Decimal l n × (n ≤ HIGHEST)
 Spells (number (negsuc n)) l = Behind 45 l (suc n) × (suc n ≤ LOWEST)
 
 -- where a token stands in a text: what it opens, whether it is a word or number, its first byte and the byte behind it
-pub record Mark : Type 0 where
+pub record Spot : Type 0 where
   pub does : Opens
   pub is-word : Bool
   pub from : ℕ
   pub upto : ℕ
 
-abbrev pub mark-of : Token → ℕ → ℕ → Mark
-mark-of t from upto = record { does = opens t; is-word = tight t; from = from; upto = upto }
+abbrev pub spot-of : Token → ℕ → ℕ → Spot
+spot-of t from upto = record { does = opens t; is-word = tight t; from = from; upto = upto }
 
 -- "Spaces and line ends may stand around any word, number or mark, and must between two words or numbers": the text of some tokens from the place `at` on,
 -- behind a word or number that has just ended if the second argument is true, and where each stands
-pub data Spaced : ℕ → Bool → List Token → Bytes → List Mark → Type 0 where
+pub data Spaced : ℕ → Bool → List Token → Bytes → List Spot → Type 0 where
   end : {at : ℕ} {g : Bool} → Spaced at g [] [] []
-  space : {at : ℕ} {g : Bool} {c : ℕ} {ts : List Token} {l : Bytes} {ms : List Mark} → T (is-space c) → Spaced (suc at) false ts l ms → Spaced at g ts (c ∷ l) ms
-  next : {at : ℕ} {g : Bool} {t : Token} {ts : List Token} {text : Bytes} {ms : List Mark} (s l : Bytes) → T (not (g && tight t)) → Spells t s → text ≡ s ++ l
-      → Spaced (at + length s) (tight t) ts l ms → Spaced at g (t ∷ ts) text (mark-of t at (at + length s) ∷ ms)
+  space : {at : ℕ} {g : Bool} {c : ℕ} {ts : List Token} {l : Bytes} {ms : List Spot} → T (is-space c) → Spaced (suc at) false ts l ms → Spaced at g ts (c ∷ l) ms
+  next : {at : ℕ} {g : Bool} {t : Token} {ts : List Token} {text : Bytes} {ms : List Spot} (s l : Bytes) → T (not (g && tight t)) → Spells t s → text ≡ s ++ l
+      → Spaced (at + length s) (tight t) ts l ms → Spaced at g (t ∷ ts) text (spot-of t at (at + length s) ∷ ms)

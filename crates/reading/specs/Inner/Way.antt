@@ -6,7 +6,7 @@ use mathlib.Core.List.{List, [], _∷_}
 use lib.Dec.{eqb}
 use lib.ListN.{length, drop}
 use Rattle.image.specs.Bytes.{Bytes}
-use Rattle.written.specs.Token.{Opens, nothing, node, record-of, Mark}
+use Rattle.written.specs.Token.{Opens, nothing, node, record-of, Spot}
 use Rattle.written.specs.Machine.{Stack, Log, plain}
 use Rattle.written.specs.Limits.{NODES, RECORDS}
 use Rattle.written.specs.Answer.{Answer, refused-17, refused-18}
@@ -24,11 +24,11 @@ record-in nothing = 0
 record-in node = 0
 record-in record-of = 1
 
-unfoldable pub nodes-in : List Mark → ℕ
+unfoldable pub nodes-in : List Spot → ℕ
 nodes-in [] = 0
 nodes-in (m ∷ ms) = node-of (m .does) + nodes-in ms
 
-unfoldable pub records-in : List Mark → ℕ
+unfoldable pub records-in : List Spot → ℕ
 records-in [] = 0
 records-in (m ∷ ms) = record-in (m .does) + records-in ms
 
@@ -39,8 +39,8 @@ Live c = c .refused ≡ 0
 -- the machine's log at a cursor
 pub record Logged (c : Cursor) (w : Log) : Type 0 where
   pub at-is : w .at ≡ c .at
-  pub nodes-are : nodes-in (w .marks) ≡ c .nodes
-  pub records-are : records-in (w .marks) ≡ c .records
+  pub nodes-are : nodes-in (w .spots) ≡ c .nodes
+  pub records-are : records-in (w .spots) ≡ c .records
 
 -- the answer to the text from a cursor on, with a stack of what is still to come
 unfoldable pub told : ℕ → ℕ → Answer → Answer

@@ -7,7 +7,7 @@ use Rattle.imp.specs.Condition.{Condition}
 use Rattle.imp.specs.Routine.{Statement}
 use Rattle.image.specs.Bytes.{Bytes}
 use Rattle.image.specs.Listing.{sizeˢ}
-use Rattle.written.specs.Token.{nothing, Mark}
+use Rattle.written.specs.Token.{nothing, Spot}
 use Rattle.written.specs.Machine.{counts, Reading, Stack, done, want, Log}
 use Rattle.written.specs.Limits.{NODES, RECORDS}
 use Rattle.written.specs.Answer.{gives, refused-17, refused-18, answer}
@@ -25,7 +25,7 @@ pub record CountWay (text : Bytes) (c : Cursor) (r : Number) : Type 0 where
 
 -- nothing is to come: the text ends, but for spaces
 pub record EndWay (text : Bytes) (c r : Cursor) : Type 0 where
-  pub ends : (w : Log) (R : Reading) → (Live c → Logged c w) → Live r → (ms : List Mark) × (here text c w (done R) ≡ gives (record { reading = R; placed = ms }))
+  pub ends : (w : Log) (R : Reading) → (Live c → Logged c w) → Live r → (ms : List Spot) × (here text c w (done R) ≡ gives (record { reading = R; placed = ms }))
   pub wrong : (w : Log) (R : Reading) → (Live c → Logged c w) → r .refused ≡ 17 → here text c w (done R) ≡ refused-17 (r .at)
   pub many : (w : Log) (R : Reading) → (Live c → Logged c w) → (r .refused ≡ 0 → ⊥) → (r .refused ≡ 17 → ⊥) → here text c w (done R) ≡ refused-18 (r .at)
   pub was-live : Live r → Live c
@@ -34,7 +34,7 @@ pub record EndWay (text : Bytes) (c r : Cursor) : Type 0 where
 -- the routine that the text is, in the tables, or the machine's refusal
 pub record ReadsWhole (text : Bytes) (nodes records : List ℕ) (r : Number) : Type 0 where
   pub tree : Statement Condition
-  pub read-is : Live (r .cursor) → (ms : List Mark) × (answer text ≡ gives (record { reading = record { options = r .value; tree = tree }; placed = ms }))
+  pub read-is : Live (r .cursor) → (ms : List Spot) × (answer text ≡ gives (record { reading = record { options = r .value; tree = tree }; placed = ms }))
   pub wrong : r .cursor .refused ≡ 17 → answer text ≡ refused-17 (r .cursor .at)
   pub many : (r .cursor .refused ≡ 0 → ⊥) → (r .cursor .refused ≡ 17 → ⊥) → answer text ≡ refused-18 (r .cursor .at)
   pub options-few : r .value ≤ 6

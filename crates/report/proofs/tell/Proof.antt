@@ -14,7 +14,7 @@ returns c =
     let e = c .before .end .given .1 in
     let input = start .args .input .now in
     let n = start .args .n in
-    (within input n (start .pre .1 .1) done e, tells input n (start .pre .1 .1) done e (start .pre .0))
+    (within input n (start .pre .1 .1) done e, tells input n (start .pre .1 .1) done e (omega (arith, start .pre .0)))
 
 returns-2 : tie.Need-returns-2
 returns-2 c =

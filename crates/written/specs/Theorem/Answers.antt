@@ -12,7 +12,7 @@ use Rattle.imp.specs.Condition.{Condition}
 use Rattle.imp.specs.Routine.{Statement}
 use Rattle.image.specs.Bytes.{Bytes}
 use Rattle.written.specs.Byte.{is-run}
-use Rattle.written.specs.Token.{Mark}
+use Rattle.written.specs.Token.{Spot}
 use Rattle.written.specs.Grammar.{Placed, Reads, Viable, Refused-17}
 use Rattle.written.specs.Machine.{Result, State, step, start, Outcome, read, refused, outcome}
 use Rattle.written.specs.Limits.{too-many, runs-on, whole-in, Refused-18}
@@ -52,43 +52,43 @@ not-within (refused q) p e = let z : _≡_ {A = ℕ} 17 18 = ap kind e in absurd
 
 -- a token over a limit, noted and whole
 record Found (text : Bytes) (p : ℕ) : Type 0 where
-  mark : Mark
-  noted : too-many (reverse (so-far (last text start))) ≡ some mark
-  ended : mark .upto ≤ reach text start
-  whole : T (whole-in mark text)
-  here : mark .from ≡ p
+  spot : Spot
+  noted : too-many (reverse (so-far (last text start))) ≡ some spot
+  ended : spot .upto ≤ reach text start
+  whole : T (whole-in spot text)
+  here : spot .from ≡ p
 
-found-by : (u : Bool) (m : Mark) (o : Outcome) (p : ℕ) → by-whole u m (within o) ≡ refused-18 p → T u × (m .from ≡ p)
+found-by : (u : Bool) (m : Spot) (o : Outcome) (p : ℕ) → by-whole u m (within o) ≡ refused-18 p → T u × (m .from ≡ p)
 found-by true m o p e = (tt, same-18 e)
 found-by false m o p e = absurd (not-within o p e)
 
-found-in : (k : Option Mark) (text : Bytes) (o : Outcome) (p : ℕ) → too-many (reverse (so-far (last text start))) ≡ k
+found-in : (k : Option Spot) (text : Bytes) (o : Outcome) (p : ℕ) → too-many (reverse (so-far (last text start))) ≡ k
     → limited k text (reach text start) (within o) ≡ refused-18 p → Found text p
 found-in none text o p d e = absurd (not-within o p e)
 found-in (some m) text o p d e =
     let k = found-by (leb (m .upto) (reach text start) && whole-in m text) m o p e in
     let a = and-parts (leb (m .upto) (reach text start)) (whole-in m text) (k .0) in
-    record { mark = m; noted = d; ended = leb→le (m .upto) (reach text start) (a .0); whole = a .1; here = k .1 }
+    record { spot = m; noted = d; ended = leb→le (m .upto) (reach text start) (a .0); whole = a .1; here = k .1 }
 
 pub answered-18 : (text : Bytes) (p : ℕ) → answer text ≡ refused-18 p → Refused-18 text p
 unfolding answer
 answered-18 text p e =
     let f = found-in (too-many (reverse (so-far (last text start)))) text (outcome text) p refl e in
     let n = reach text start in
-    let u = f .mark .upto in
+    let u = f .spot .upto in
     let o = live (last text start) in
     let d : Placed (take n text ++ o .rest) (o .result .reading .options) (o .result .reading .tree) (o .result .placed) =
     start-sound (take n text ++ o .rest) (o .result) (last-lang text start (o .rest) (o .result) (o .goes)) in
     let s : take n text ++ o .rest ≡ take u text ++ (drop u (take n text) ++ o .rest) =
     ap (λ l. l ++ o .rest) (take-more u n text (f .ended)) ∙ together (take u text) (drop u (take n text)) (o .rest) in
     record {
-      mark = f .mark;
+      spot = f .spot;
       others = o .result .placed;
       more = drop u (take n text) ++ o .rest;
       F = o .result .reading .options;
       tree = o .result .reading .tree;
       fits = subst (λ l. Placed l (o .result .reading .options) (o .result .reading .tree) (o .result .placed)) s d;
-      is-first = ap (λ ms. too-many ms) (o .kept) ∙ kept-more (so-far (last text start)) (o .others) 1024 256 (f .mark) (f .noted);
+      is-first = ap (λ ms. too-many ms) (o .kept) ∙ kept-more (so-far (last text start)) (o .others) 1024 256 (f .spot) (f .noted);
       in-it = omega (arith, f .ended, reach-most text start);
       whole = f .whole;
       here = f .here;
@@ -97,7 +97,7 @@ answered-18 text p e =
 -- ---- from the definition to the answer
 
 -- what is noted at a place stays noted to the end
-on-by : (m : Mark) (q : State) (b : ℕ) (l : Bytes) (n : ℕ) (o : Option State) → step q b ≡ o → m .upto ≤ n → T (not (m .is-word && is-run b)) → too-many (reverse (so-far q)) ≡ some m
+on-by : (m : Spot) (q : State) (b : ℕ) (l : Bytes) (n : ℕ) (o : Option State) → step q b ≡ o → m .upto ≤ n → T (not (m .is-word && is-run b)) → too-many (reverse (so-far q)) ≡ some m
     → Now (or-stay q o λ q′. last l q′) (n + or-none o (λ q′. reach l q′)) → too-many (reverse (so-far (or-stay q o λ q′. last l q′))) ≡ some m
 unfolding Then
 on-by m q b l n none d h k e w = e
@@ -107,7 +107,7 @@ on-by m q b l n (some q′) d h k e w =
     let z : Lang q (b ∷ x) (o .result) = step-sound q b x (o .result) (subst (λ p. Then p x (o .result)) (sym d) (last-lang l q′ (o .rest) (o .result) (o .goes))) in
     settled (n + suc (reach l q′)) m (omega arith) (last l q′) (o .rest) (o .result) w (o .goes) (stays m q b x (o .result) e k z)
 
-pub noted-on : (m : Mark) (q : State) (l : Bytes) (n : ℕ) → m .upto ≤ n → T (not (m .is-word && runs-on l)) → Now q n → too-many (reverse (so-far q)) ≡ some m
+pub noted-on : (m : Spot) (q : State) (l : Bytes) (n : ℕ) → m .upto ≤ n → T (not (m .is-word && runs-on l)) → Now q n → too-many (reverse (so-far q)) ≡ some m
     → too-many (reverse (so-far (last l q))) ≡ some m
 unfolding last reach
 noted-on m q [] n h k w e = e
@@ -118,9 +118,9 @@ unfolding Now start
 start-now = refl
 
 -- the token of Refusal 18 has been noted when the machine stops, and has ended by then
-pub noted-18 : (text : Bytes) (p : ℕ) (r : Refused-18 text p) → (too-many (reverse (so-far (last text start))) ≡ some (r .mark)) × (r .mark .upto ≤ reach text start)
+pub noted-18 : (text : Bytes) (p : ℕ) (r : Refused-18 text p) → (too-many (reverse (so-far (last text start))) ≡ some (r .spot)) × (r .spot .upto ≤ reach text start)
 noted-18 text p r =
-    let m = r .mark in
+    let m = r .spot in
     let u = m .upto in
     let l = take u text in
     let l′ = drop u text in
@@ -140,7 +140,7 @@ noted-18 text p r =
 pub answers-18 : (text : Bytes) (p : ℕ) → Refused-18 text p → answer text ≡ refused-18 p
 unfolding answer
 answers-18 text p r =
-    let m = r .mark in
+    let m = r .spot in
     let u = m .upto in
     let k = noted-18 text p r in
     let g : (leb u (reach text start) && whole-in m text) ≡ true =
@@ -157,11 +157,11 @@ one-18 text p q a b = same-18 (sym (answers-18 text p a) ∙ answers-18 text q b
 -- ---- the other answers
 
 -- the answer is Refusal 18, or what the grammar alone says
-either-by : (u : Bool) (m : Mark) (a : Answer) → (by-whole u m a ≡ a) ⊎ ((p : ℕ) × (by-whole u m a ≡ refused-18 p))
+either-by : (u : Bool) (m : Spot) (a : Answer) → (by-whole u m a ≡ a) ⊎ ((p : ℕ) × (by-whole u m a ≡ refused-18 p))
 either-by true m a = inr (m .from, refl)
 either-by false m a = inl refl
 
-either-in : (k : Option Mark) (text : Bytes) (n : ℕ) (a : Answer) → (limited k text n a ≡ a) ⊎ ((p : ℕ) × (limited k text n a ≡ refused-18 p))
+either-in : (k : Option Spot) (text : Bytes) (n : ℕ) (a : Answer) → (limited k text n a ≡ a) ⊎ ((p : ℕ) × (limited k text n a ≡ refused-18 p))
 either-in none text n a = inl refl
 either-in (some m) text n a = either-by (leb (m .upto) n && whole-in m text) m a
 
@@ -208,7 +208,7 @@ refuses-17 text p = (
 )
 
 -- a reading where the text is of the grammar and no token is over a limit
-pub gives-reading : (text : Bytes) (F : ℕ) (t : Statement Condition) (ms : List Mark)
+pub gives-reading : (text : Bytes) (F : ℕ) (t : Statement Condition) (ms : List Spot)
     → (Placed text F t ms × ((q : ℕ) → Refused-18 text q → ⊥)) ↔ (answer text ≡ gives (result F t ms))
 unfolding kind
 gives-reading text F t ms = (

@@ -10,7 +10,7 @@ use lib.IntN.{ℤ, pos, negsuc}
 use Rattle.imp.specs.Condition.{Condition, falseᶜ, trueᶜ, option, notᶜ, andᶜ, orᶜ}
 use Rattle.imp.specs.Routine.{Arithmetic, number, variable, sum, pick, choiceᵃ, Boolean, falseᵇ, trueᵇ, notᵇ, andᵇ, less, choiceᵇ, Statement, skip, assign, sequence, if, while, throw, try, choice}
 use Rattle.image.specs.Bytes.{Bytes}
-use Rattle.written.specs.Token.{Token, nothing, node, fixed, tight, opens, Extends, Decimal, Behind, Spells, Mark, mark-of, Spaced, end, space, next}
+use Rattle.written.specs.Token.{Token, nothing, node, fixed, tight, opens, Extends, Decimal, Behind, Spells, Spot, spot-of, Spaced, end, space, next}
 use Rattle.written.specs.Grammar.{of-condition, of-arithmetic, of-boolean, of-statement}
 use Rattle.written.specs.Machine.{Result, Log, Begun, noted, behind, Class, statements, arithmetics, booleans, conditions, variables, joins, counts, Value, Reading, Stack, done, mark, want, State, plain, fork, first, digits, low, look, forks, step, ended, final}
 use Rattle.written.specs.Answer.{so-far}
@@ -72,13 +72,13 @@ value-token F joins v r = (_, _, refl)
 value-token F counts v r = (_, _, refl)
 
 -- with no token left, and no byte
-none-left : {at : ℕ} {g : Bool} {ms : List Mark} → Spaced at g [] [] ms → ms ≡ []
+none-left : {at : ℕ} {g : Bool} {ms : List Spot} → Spaced at g [] [] ms → ms ≡ []
 none-left end = refl
 
 ended-complete : (w : Log) (g : Bool) (s : Stack) (R : Result) → Left w g s [] R → ended w s ≡ some R
 unfolding Choices tokens-of result-of
 ended-complete w g (done v) R h =
-    let m : reverse (w .marks) ≡ R .placed = ap (λ ms. reverseAux (w .marks) ms) (sym (none-left (h .rest .spaced))) ∙ h .rest .logged in
+    let m : reverse (w .spots) ≡ R .placed = ap (λ ms. reverseAux (w .spots) ms) (sym (none-left (h .rest .spaced))) ∙ h .rest .logged in
     λ i. some (record { reading = h .rest .gives i; placed = m i })
 ended-complete w g (mark x s) R h = absurd (not-empty (h .rest))
 ended-complete w g (want F k f) R h =
@@ -93,7 +93,7 @@ held d (some a) = a
 ended-sound : (w : Log) (g : Bool) (s : Stack) (R : Result) → ended w s ≡ some R → Left w g s [] R
 unfolding Choices tokens-of result-of held
 ended-sound w g (done v) R h =
-    let e : record { reading = v; placed = reverse (w .marks) } ≡ R = ap (held R) h in
+    let e : record { reading = v; placed = reverse (w .spots) } ≡ R = ap (held R) h in
     record { chosen = tt; rest = record { gives = ap (λ R. R .reading) e; places = []; spaced = end; logged = ap (λ R. R .placed) e } }
 ended-sound w g (mark x s) R h = let z : _≡_ {A = ℕ} 0 1 = cc in absurd (omega arith)
 ended-sound w g (want F k f) R h = let z : _≡_ {A = ℕ} 0 1 = cc in absurd (omega arith)
@@ -153,7 +153,7 @@ pub record Live (q : State) : Type 0 where
   pub result : Result
   pub goes : Lang q rest result
   -- whatever has been noted stays so
-  pub others : List Mark
+  pub others : List Spot
   pub kept : result .placed ≡ reverseAux (so-far q) others
 
 -- a value of each class in one token, which spells it
@@ -186,7 +186,7 @@ example-of F counts = record { token = _; bytes = 48 ∷ []; is = λ r. refl; sp
 record Open (at : ℕ) (g : Bool) (s : Stack) : Type 0 where
   text : Bytes
   values : Choices s
-  marks-of : List Mark
+  marks-of : List Spot
   spaced : Spaced at g (tokens-of s values) text marks-of
 
 open-stack : (s : Stack) (at : ℕ) (g : Bool) → Open at g s
@@ -200,7 +200,7 @@ open-stack (want F k f) at g =
     let v = example k in
     let x = example-of F k in
     let o = open-stack (f v) (suc at + length (x .bytes)) (tight (x .token)) in
-    let ms : List Mark = mark-of (x .token) (suc at) (suc at + length (x .bytes)) ∷ o .marks-of in
+    let ms : List Spot = spot-of (x .token) (suc at) (suc at + length (x .bytes)) ∷ o .marks-of in
     let d : Spaced at g (x .token ∷ tokens-of (f v) (o .values)) (32 ∷ x .bytes ++ o .text) ms = space tt (next (x .bytes) (o .text) tt (x .spells) refl (o .spaced)) in
     record {
       text = 32 ∷ x .bytes ++ o .text;
@@ -212,7 +212,7 @@ open-stack (want F k f) at g =
 result-open : (w : Log) (g : Bool) (s : Stack) → Result
 result-open w g s =
     let o = open-stack s (w .at) g in
-    record { reading = result-of s (o .values); placed = reverseAux (w .marks) (o .marks-of) }
+    record { reading = result-of s (o .values); placed = reverseAux (w .spots) (o .marks-of) }
 
 left-open : (w : Log) (g : Bool) (s : Stack) → Left w g s (open-stack s (w .at) g .text) (result-open w g s)
 unfolding result-open

@@ -11,7 +11,7 @@ use lib.ListN.{length}
 use borrow.Author.Tests.{eq-eqb}
 use Rattle.image.specs.Bytes.{Bytes}
 use Rattle.written.specs.Byte.{is-space, is-digit, is-letter, is-wordy}
-use Rattle.written.specs.Token.{Mark}
+use Rattle.written.specs.Token.{Spot}
 use Rattle.written.specs.Machine.{Result, Stack, Log, Begun, behind, State, plain, digits, when, past-space, between-by, between, digits-by, step, final, start, carry, at-end, go, outcome}
 use Rattle.written.specs.Limits.{too-many, runs-on, whole-in}
 use Rattle.written.specs.Answer.{so-far, or-stay, last, or-none, reach, Answer, refused-17, refused-18, within, by-whole, limited, answer}
@@ -95,7 +95,7 @@ from-number text (b ∷ l) B n hi f at h =
 -- ---- a token over a limit
 
 -- once it has ended and is whole, the answer is Refusal 18 at its first byte, whatever follows
-pub from-over : (text l : Bytes) (q : State) (at : ℕ) (m : Mark) → Now q at → m .upto ≤ at → T (not (m .is-word && runs-on l)) → T (whole-in m text)
+pub from-over : (text l : Bytes) (q : State) (at : ℕ) (m : Spot) → Now q at → m .upto ≤ at → T (not (m .is-word && runs-on l)) → T (whole-in m text)
     → too-many (reverse (so-far q)) ≡ some m → from text l q at ≡ refused-18 (m .from)
 unfolding from
 from-over text l q at m w h k j e =

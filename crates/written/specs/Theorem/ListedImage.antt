@@ -8,7 +8,7 @@ use Rattle.image.specs.Records.{header}
 use Rattle.image.specs.Tree.{routine}
 use Rattle.image.specs.Listing.{sizeˢ}
 use Rattle.image.specs.Accepted.{Accepted}
-use Rattle.written.specs.Token.{Mark}
+use Rattle.written.specs.Token.{Spot}
 use Rattle.written.specs.Machine.{read as given, outcome}
 use Rattle.written.specs.Lister.{listed}
 use Rattle.written.specs.Theorem.Reader.{result}
@@ -26,12 +26,12 @@ module _ (l : Bytes) (acc : Accepted l) where
   F = header l .options
 
   -- "reading it gives back F and the tree with its conditions written out"
-  pub listing-read : (ms : List Mark) × (outcome (listed F (routine l)) ≡ given (result F (routine l) ms))
+  pub listing-read : (ms : List Spot) × (outcome (listed F (routine l)) ≡ given (result F (routine l) ms))
   listing-read = listed-read F (routine l) (acc .few-options) (routine-valid l acc) (routine-under l acc)
 
   -- so a listing of at most 256 conditions written out is answered with F and the tree, and the image of that reads as the same routine
   pub listing-answered : recordsˢ (routine l) ≤ 256
-      → ((ms : List Mark) × (answer (listed F (routine l)) ≡ gives (result F (routine l) ms))) × (routine (written-image F (routine l)) ≡ routine l)
+      → ((ms : List Spot) × (answer (listed F (routine l)) ≡ gives (result F (routine l) ms))) × (routine (written-image F (routine l)) ≡ routine l)
   unfolding Reads
   listing-answered few =
       let size : sizeˢ (routine l) ≤ 1024 = omega (arith, routine-size l acc, acc .few-nodes) in

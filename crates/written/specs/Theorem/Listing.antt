@@ -12,7 +12,7 @@ use Rattle.imp.specs.Valid.{Validᵃ, Validᵇ, Valid}
 use Rattle.image.specs.Bytes.{Bytes}
 use Rattle.text.specs.Decimal.{decimal, signed-decimal}
 use Rattle.written.specs.Byte.{is-space, is-wordy}
-use Rattle.written.specs.Token.{Token, Lexeme, Opens, nothing, node, record-of, fixed, count, tight, Spells, Mark, Spaced, end, space, next}
+use Rattle.written.specs.Token.{Token, Lexeme, Opens, nothing, node, record-of, fixed, count, tight, Spells, Spot, Spaced, end, space, next}
 use Rattle.written.specs.Token as Of
 use Rattle.written.specs.Word.{OPTIONS, SKIP, IF, THEN, ELSE, WHILE, DO, THROW, TRY, CATCH, WITH, TRUE, FALSE, NOT, BOTH, PICK, AND, OR, GETS, LEFT, RIGHT, PLUS, BELOW, BRACE, SEMI, UNBRACE, ASK, COLON, BRACKET, UNBRACKET}
 use Rattle.written.specs.Grammar.{of-condition, of-arithmetic, of-boolean, of-statement, of-routine, Placed, Reads}
@@ -26,7 +26,7 @@ use Rattle.written.specs.Theorem.Spelled.{variable-spelled, option-spell
 
 -- some spacing of the tokens, wherever they stand
 abbrev Some : ℕ → Bool → List Token → Bytes → Type 0
-Some at g ts l = (ms : List Mark) × Spaced at g ts l ms
+Some at g ts l = (ms : List Spot) × Spaced at g ts l ms
 
 -- behind a mark or a space
 record Sits (ts : List Token) (l : Bytes) : Type 0 where
@@ -182,5 +182,5 @@ listed-is F t h v u =
     (spaced 10 tt (sits F h 0 t v u (10 ∷ []) (spaced 10 tt (still ended))))))) .here 0
 
 -- and "reading it gives back F and the tree"
-pub listed-read : (F : ℕ) (t : Statement Condition) → F ≤ 6 → Valid t → Under F t → (ms : List Mark) × (outcome (listed F t) ≡ read (result F t ms))
+pub listed-read : (F : ℕ) (t : Statement Condition) → F ≤ 6 → Valid t → Under F t → (ms : List Spot) × (outcome (listed F t) ≡ read (result F t ms))
 listed-read F t h v u = (reads (listed F t) F t) .0 (listed-is F t h v u)

@@ -12,7 +12,7 @@ use Rattle.image.specs.Bytes.{Bytes}
 use Rattle.image.specs.Listing.{sizeᵃ, sizeᵇ, sizeˢ}
 use Rattle.written.specs.Token as Of
 use Rattle.written.specs.Word.{AND, OR, RIGHT, PLUS, ASK, COLON, UNBRACKET, BELOW, SEMI, UNBRACE, THEN, ELSE, DO, CATCH, WITH}
-use Rattle.written.specs.Token.{Token, fixed, Opens, nothing, node, record-of, opens, Mark, Spaced, end, space, next}
+use Rattle.written.specs.Token.{Token, fixed, Opens, nothing, node, record-of, opens, Spot, Spaced, end, space, next}
 use Rattle.written.specs.Grammar.{of-condition, of-arithmetic, of-boolean, of-statement, of-routine, Placed}
 use Rattle.written.specs.Machine.{Result, Log, behind, State, plain, fork, first, digits, done, mark, want, Stack, final, start, ended, outcome}
 use Rattle.written.specs.Limits.{over-by, over, too-many, Refused-18}
@@ -141,24 +141,24 @@ sizedˢ F (choice c x y) r =
 
 -- ---- marks
 
-abbrev node-marks : List Mark → ℕ
+abbrev node-marks : List Spot → ℕ
 node-marks [] = 0
 node-marks (m ∷ ms) = node-of (m .does) (node-marks ms)
 
-abbrev record-marks : List Mark → ℕ
+abbrev record-marks : List Spot → ℕ
 record-marks [] = 0
 record-marks (m ∷ ms) = record-in (m .does) (record-marks ms)
 
-marked : {at : ℕ} {g : Bool} {ts : List Token} {l : Bytes} {ms : List Mark} → Spaced at g ts l ms → (node-marks ms ≡ nodes-in ts) × (record-marks ms ≡ records-in ts)
+marked : {at : ℕ} {g : Bool} {ts : List Token} {l : Bytes} {ms : List Spot} → Spaced at g ts l ms → (node-marks ms ≡ nodes-in ts) × (record-marks ms ≡ records-in ts)
 marked end = (refl, refl)
 marked (space h d) = marked d
 marked (next {t = t} s l h p e d) = (ap (node-of (opens t)) ((marked d) .0), ap (record-in (opens t)) ((marked d) .1))
 
 -- none is over the limits exactly where there are few
-none-some : {x : Mark} → _≡_ {A = Option Mark} (some x) none → ⊥
+none-some : {x : Spot} → _≡_ {A = Option Spot} (some x) none → ⊥
 none-some e = let z : _≡_ {A = ℕ} 0 1 = cc in absurd (omega arith)
 
-few-by : (o : Opens) (n k a b : ℕ) (m : Mark) (f : ℕ → ℕ → Option Mark) → ((n k : ℕ) → f n k ≡ none → (a ≤ n) × (b ≤ k)) → over-by o n k m f ≡ none
+few-by : (o : Opens) (n k a b : ℕ) (m : Spot) (f : ℕ → ℕ → Option Spot) → ((n k : ℕ) → f n k ≡ none → (a ≤ n) × (b ≤ k)) → over-by o n k m f ≡ none
     → (node-of o a ≤ n) × (record-in o b ≤ k)
 few-by nothing n k a b m f h e = h n k e
 few-by node zero k a b m f h e = absurd (none-some e)
@@ -166,12 +166,12 @@ few-by node (suc n) k a b m f h e = (omega (arith, h n k e), omega (arith, h n k
 few-by record-of n zero a b m f h e = absurd (none-some e)
 few-by record-of n (suc k) a b m f h e = (omega (arith, h n k e), omega (arith, h n k e))
 
-few : (ms : List Mark) (n k : ℕ) → over n k ms ≡ none → (node-marks ms ≤ n) × (record-marks ms ≤ k)
+few : (ms : List Spot) (n k : ℕ) → over n k ms ≡ none → (node-marks ms ≤ n) × (record-marks ms ≤ k)
 unfolding over
 few [] n k e = (omega arith, omega arith)
 few (m ∷ ms) n k e = few-by (m .does) n k (node-marks ms) (record-marks ms) m (λ n k. over n k ms) (λ n k. few ms n k) e
 
-none-by : (o : Opens) (n k a b : ℕ) (m : Mark) (f : ℕ → ℕ → Option Mark) → ((n k : ℕ) → a ≤ n → b ≤ k → f n k ≡ none) → node-of o a ≤ n → record-in o b ≤ k
+none-by : (o : Opens) (n k a b : ℕ) (m : Spot) (f : ℕ → ℕ → Option Spot) → ((n k : ℕ) → a ≤ n → b ≤ k → f n k ≡ none) → node-of o a ≤ n → record-in o b ≤ k
     → over-by o n k m f ≡ none
 none-by nothing n k a b m f h p q = h n k p q
 none-by node zero k a b m f h p q = absurd (omega arith)
@@ -179,13 +179,13 @@ none-by node (suc n) k a b m f h p q = h n k (omega arith) q
 none-by record-of n zero a b m f h p q = absurd (omega arith)
 none-by record-of n (suc k) a b m f h p q = h n k p (omega arith)
 
-none-over : (ms : List Mark) (n k : ℕ) → node-marks ms ≤ n → record-marks ms ≤ k → over n k ms ≡ none
+none-over : (ms : List Spot) (n k : ℕ) → node-marks ms ≤ n → record-marks ms ≤ k → over n k ms ≡ none
 unfolding over
 none-over [] n k p q = refl
 none-over (m ∷ ms) n k p q = none-by (m .does) n k (node-marks ms) (record-marks ms) m (λ n k. over n k ms) (λ n k. none-over ms n k) p q
 
 -- the marks of a reading count the tree's nodes and its conditions written out
-sizes : (text : Bytes) (F : ℕ) (t : Statement Condition) (ms : List Mark) → Placed text F t ms → (node-marks ms ≡ sizeˢ t) × (record-marks ms ≡ recordsˢ t)
+sizes : (text : Bytes) (F : ℕ) (t : Statement Condition) (ms : List Spot) → Placed text F t ms → (node-marks ms ≡ sizeˢ t) × (record-marks ms ≡ recordsˢ t)
 unfolding Placed of-routine opens
 sizes text F t ms h =
     let m = marked h in
@@ -194,11 +194,11 @@ sizes text F t ms h =
 
 -- ---- at the end of a text every mark is noted
 
-held : List Mark → Option Result → List Mark
+held : List Spot → Option Result → List Spot
 held d none = d
 held d (some R) = R .placed
 
-final-marks : (w : Log) (s : Stack) (R : Result) → ended w s ≡ some R → R .placed ≡ reverse (w .marks)
+final-marks : (w : Log) (s : Stack) (R : Result) → ended w s ≡ some R → R .placed ≡ reverse (w .spots)
 unfolding held
 final-marks w (done r) R e = sym (ap (λ o. held (R .placed) o) e)
 final-marks w (mark x s) R e = let z : _≡_ {A = ℕ} 0 1 = cc in absurd (omega arith)
@@ -217,7 +217,7 @@ append-none [] = refl
 append-none (b ∷ l) = ap (λ l. b ∷ l) (append-none l)
 
 -- so a reading within the limits has no Refusal 18
-none-18 : (text : Bytes) (F : ℕ) (t : Statement Condition) (ms : List Mark) → Placed text F t ms → too-many ms ≡ none → (p : ℕ) → Refused-18 text p → ⊥
+none-18 : (text : Bytes) (F : ℕ) (t : Statement Condition) (ms : List Spot) → Placed text F t ms → too-many ms ≡ none → (p : ℕ) → Refused-18 text p → ⊥
 none-18 text F t ms h e p r =
     let R = result F t ms in
     let s : Lang start (text ++ []) R = subst (λ l. Lang start l R) (sym (append-none text)) (start-complete text F t ms h) in
@@ -225,7 +225,7 @@ none-18 text F t ms h e p r =
     none-some (sym ((noted-18 text p r) .0) ∙ (ap (λ ms. too-many ms) (sym a) ∙ e))
 
 -- (e) the reader gives F, the tree and the places exactly where the text is a written form of them with at most 1,024 nodes and 256 conditions
-pub gives-within : (text : Bytes) (F : ℕ) (t : Statement Condition) (ms : List Mark)
+pub gives-within : (text : Bytes) (F : ℕ) (t : Statement Condition) (ms : List Spot)
     → (Placed text F t ms × (sizeˢ t ≤ 1024) × (recordsˢ t ≤ 256)) ↔ (answer text ≡ gives (result F t ms))
 gives-within text F t ms = (into, out)
   where
