@@ -1,8 +1,7 @@
 -- What passing spaces does, and what a cursor faces that stands at the first byte of a token.
 use mathlib.Core.Path.{_≡_}
-use Prim.Native.Nat.{ℕ, _≤_, _<_}
-use mathlib.Core.Bool.{true, false, _&&_, cond}
-use lib.Dec.{eqb}
+use Prim.Native.Nat.{ℕ, _<_}
+use mathlib.Core.Bool.{false, _&&_}
 use lib.ListN.{length, getD}
 use Rattle.image.specs.Bytes.{Bytes}
 use Rattle.written.specs.Byte.{is-space, is-wordy}
@@ -10,13 +9,6 @@ use Rattle.written.specs.Token.{Lexeme, nothing}
 use Rattle.written.specs.Machine.{Class, Value, Stack, mark, want}
 use Rattle.reading.specs.declared.cursor.Cursor.{Cursor}
 use Rattle.reading.specs.Inner.Way.{Live, Way, Opened}
-
--- from i to j there are spaces only, and none at j
-pub record AllSpaces (text : Bytes) (i j : ℕ) : Type 0 where
-  pub forth : i ≤ j
-  pub inside : j ≤ length text
-  pub all : (k : ℕ) → i ≤ k → k < j → is-space (getD text k 0) ≡ true
-  pub stops : j < length text → is-space (getD text j 0) ≡ false
 
 pub record Passes (text : Bytes) (c c′ : Cursor) : Type 0 where
   pub way : (s : Stack) → Way text c c′ s s
@@ -28,9 +20,6 @@ pub record Faces (text : Bytes) (c : Cursor) : Type 0 where
   pub before-end : Live c → c .at < length text
   pub no-space : Live c → is-space (getD text (c .at) 0) ≡ false
   pub apart : Live c → (c .tight && is-wordy (getD text (c .at) 0)) ≡ false
-
-unfoldable pub faced : Bytes → Cursor → ℕ
-faced text c = cond (eqb (c .refused) 0) (getD text (c .at) 0) 0
 
 -- to the first byte of a token, where one is still to come
 pub record Meets (text : Bytes) (c c′ : Cursor) : Type 0 where

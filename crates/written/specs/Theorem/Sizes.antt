@@ -139,7 +139,7 @@ sizedˢ F (choice c x y) r =
     let hc = sizedᶜ F c (fixed nothing ASK ∷ (of-statement F x (fixed nothing COLON ∷ (of-statement F y (fixed nothing UNBRACKET ∷ r))))) in
     record { nodes-are = omega (arith, hy, hx, hc); records-are = omega (arith, hy, hx, hc) }
 
--- ---- marks
+-- ---- spots
 
 abbrev node-marks : List Spot → ℕ
 node-marks [] = 0
@@ -184,7 +184,7 @@ unfolding over
 none-over [] n k p q = refl
 none-over (m ∷ ms) n k p q = none-by (m .does) n k (node-marks ms) (record-marks ms) m (λ n k. over n k ms) (λ n k. none-over ms n k) p q
 
--- the marks of a reading count the tree's nodes and its conditions written out
+-- the spots of a reading count the tree's nodes and its conditions written out
 sizes : (text : Bytes) (F : ℕ) (t : Statement Condition) (ms : List Spot) → Placed text F t ms → (node-marks ms ≡ sizeˢ t) × (record-marks ms ≡ recordsˢ t)
 unfolding Placed of-routine opens
 sizes text F t ms h =
