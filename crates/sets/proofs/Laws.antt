@@ -88,15 +88,17 @@ one-shl w s h = shl-exact 1 s w (omega arith) (omega arith) ∙ one-mul (2 ^ s)
 
 -- ---- the first n settings
 
+pub digit-ones : (n s : ℕ) → s < n → digit (2 ^ n - 1) s ≡ 1
+digit-ones n s h =
+    let all : (2 ^ n - 1) - 0 ≡ 2 ^ n - 1 = omega arith in
+    rw (← all, not-digit n s 0 h (pow-pos n), digit-past 0 0 s (pow-pos 0) (omega arith))
+
 pub bit-ones : (n s : ℕ) → bit (2 ^ n - 1) s ≡ ltb s n
 unfolding bit
 bit-ones n s = go (decLt s n)
   where
-    all : (2 ^ n - 1) - 0 ≡ 2 ^ n - 1
-    all = omega arith
-
     go : Dec (s < n) → bit (2 ^ n - 1) s ≡ ltb s n
-    go (yes h) = rw (lt-ltb s n h, ← all, not-digit n s 0 h (pow-pos n), digit-past 0 0 s (pow-pos 0) (omega arith))
+    go (yes h) = rw (lt-ltb s n h, digit-ones n s h)
     go (no h) = rw (le-ltb s n (omega arith), digit-past n (2 ^ n - 1) s (ones-lt n) (omega arith))
 
 -- of all j + k settings, shifted down by k, the first j are left

@@ -1,63 +1,105 @@
--- The rule of a table of the single options' sets: one test that antt computes over the whole table, and what follows at each entry.
---
-use mathlib.Core.Path.{_≡_, ap, _∙_}
-use mathlib.Core.Bool.{Bool, true, false, _&&_, and-false}
-use mathlib.Core.List.{List, [], _∷_}
-use mathlib.Core.Logic.{⊎-elim}
-use Prim.Native.Nat.{ℕ, zero, suc, _+_, _^_, _≤_, _<_}
+-- The settings in which an option is off, by one rule: all ones divided by 2 ^ w + 1 are w ones and w zeros in turn, and option k has w = 2 ^ k.
+use mathlib.Core.Path.{_≡_, refl, sym, ap, _∙_}
+use mathlib.Core.Bool.{false, _&&_, not, and-false}
+use Prim.Native.Nat.{ℕ, zero, suc, _+_, _-_, _*_, _/_, _%_, _^_, _≤_, _<_}
 use native.Mathlib.Omega.{arith}
-use native.Mathlib.Nat.{eq-or-lt-of-le}
+use native.Mathlib.Nat.{two-pow-succ, mul-div-cancel, div-eq-of-lt, div-eq-sub-div, add-mul-div-left, mul-add, add-mul, mul-one, mul-assoc, mul-comm, lt-of-lt-of-le}
 use native.Mathlib.Decide.{decLt}
-use lib.Dec.{T, eqb, eqb→eq}
-use lib.ListN.{length, getD}
-use mir.Facts.{and-yes}
+use lib.Dec.{eqb}
+use lib.Pow.{pow-add, pow-pos, pow-mono, shr-shr, high, ones-lt, ones-split}
+use lib.Bits.{block-half, block-odd}
 use Rattle.sets.specs.Member.{digit, bit}
-use Rattle.sets.specs.Digits.{digit-past}
-use Rattle.sets.proofs.Laws.{bit-past}
+use Rattle.sets.specs.Digits.{digit-lt, on-digits, digit-lowest, digit-half, digit-past}
+use Rattle.sets.proofs.Laws.{bit-past, digit-ones}
 
--- of the first n settings, x has exactly those in which option k is on
-unfoldable pub agree : ℕ → ℕ → ℕ → Bool
-agree x k zero = true
-agree x k (suc n) = eqb (digit x n) (digit n k) && agree x k n
+-- ---- a number above w digits of another
 
--- so has each number of the list, for option k and those after it
-unfoldable pub rows : ℕ → ℕ → List ℕ → Bool
-rows n k [] = true
-rows n k (x ∷ xs) = agree x k n && rows n (suc k) xs
+digit-below : (w above low s : ℕ) → s < w → digit (above * 2 ^ w + low) s ≡ digit low s
+digit-below zero above low s h = absurd (omega arith)
+digit-below (suc w) above low zero h = digit-lowest (above * 2 ^ suc w + low) ∙ block-odd above w low ∙ sym (digit-lowest low)
+digit-below (suc w) above low (suc s) h =
+    rw (digit-half (above * 2 ^ suc w + low) s, digit-half low s, block-half) (digit-below w above (low / 2) s (omega arith))
 
-agree-at : (x k n s : ℕ) → T (agree x k n) → s < n → digit x s ≡ digit s k
-unfolding agree
-agree-at x k zero s t h = absurd (omega arith)
-agree-at x k (suc n) s t h =
-    let both = and-yes (eqb (digit x n) (digit n k)) (agree x k n) t in
-    ⊎-elim (λ (e : s ≡ n). rw e (eqb→eq _ _ (both .0))) (λ l. agree-at x k n s (both .1) l) (eq-or-lt-of-le (omega arith))
+digit-above : (w above low s : ℕ) → low < 2 ^ w → digit (above * 2 ^ w + low) (w + s) ≡ digit above s
+unfolding digit
+digit-above w above low s h = rw (← shr-shr, high above w h)
 
-row-at : (n i : ℕ) (xs : List ℕ) (k s : ℕ) → T (rows n i xs) → k < length xs → s < n → digit (getD xs k 0) s ≡ digit s (i + k)
-unfolding rows
-row-at n i [] k s t hk h = absurd (omega arith)
-row-at n i (x ∷ xs) zero s t hk h =
-    let e : i ≡ i + 0 = omega arith in agree-at x i n s (and-yes (agree x i n) (rows n (suc i) xs) t .0) h ∙ ap (digit s) e
-row-at n i (x ∷ xs) (suc k) s t hk h =
-    let e : suc i + k ≡ i + suc k = omega arith in
-    row-at n (suc i) xs k s (and-yes (agree x i n) (rows n (suc i) xs) t .1) (omega arith) h ∙ ap (digit s) e
+-- ---- w ones and w zeros in turn, m times
 
--- so a set of settings below n, met with entry k, has its settings in which option k is on
-pub option-meet : (n : ℕ) (xs : List ℕ) → T (rows n 0 xs) → (full k s : ℕ) → full < 2 ^ n → k < length xs
-    → (bit full s && bit (getD xs k 0) s) ≡ (bit full s && bit s k)
+unfoldable stripes : ℕ → ℕ → ℕ
+stripes w zero = 0
+stripes w (suc m) = stripes w m * 2 ^ (w + w) + (2 ^ w - 1)
+
+stripes-times : (w m : ℕ) → stripes w m * (2 ^ w + 1) ≡ 2 ^ (m * (w + w)) - 1
+unfolding stripes
+stripes-times w zero = let none : 0 * (w + w) ≡ 0 = omega arith in rw none (omega arith)
+stripes-times w (suc m) =
+    let more : suc m * (w + w) ≡ m * (w + w) + (w + w) = omega arith in
+    let pair : (2 ^ w - 1) * (2 ^ w + 1) ≡ 2 ^ (w + w) - 1 = rw (mul-add, mul-one, ones-split w w) in
+    rw (more, ones-split (m * (w + w)) (w + w), add-mul, pair, mul-assoc, mul-comm (2 ^ (w + w)) (2 ^ w + 1), ← mul-assoc, stripes-times w m)
+
+stripes-are : (w m : ℕ) → (2 ^ (m * (w + w)) - 1) / (2 ^ w + 1) ≡ stripes w m
+stripes-are w m = rw (← stripes-times w m) (mul-div-cancel (stripes w m) (omega arith))
+
+-- setting s is in an even stripe, or in an odd one
+stripe-below : (w above s : ℕ) → 0 < w → ((t : ℕ) → s ≡ (w + w) + t → digit above t ≡ 1 - t / w % 2)
+    → digit (above * 2 ^ (w + w) + (2 ^ w - 1)) s ≡ 1 - s / w % 2
+stripe-below w above s some higher = go (decLt s w) (decLt s (w + w))
+  where
+    fits : 2 ^ w - 1 < 2 ^ (w + w)
+    fits = lt-of-lt-of-le (ones-lt w) (pow-mono (omega arith))
+
+    go : Dec (s < w) → Dec (s < w + w) → digit (above * 2 ^ (w + w) + (2 ^ w - 1)) s ≡ 1 - s / w % 2
+    go (yes p) q = digit-below (w + w) above (2 ^ w - 1) s (omega arith) ∙ rw (digit-ones w s p, div-eq-of-lt p)
+    go (no p) (yes q) =
+        let last : s - w < w = omega arith in
+        let odd : s / w ≡ 1 = div-eq-sub-div some (omega arith) ∙ rw (div-eq-of-lt last) in
+        digit-below (w + w) above (2 ^ w - 1) s q ∙ rw (digit-past w (2 ^ w - 1) s (ones-lt w) (omega arith), odd)
+    go (no p) (no q) =
+        let t : ℕ = s - (w + w) in
+        let back : s ≡ (w + w) + t = omega arith in
+        let two : s / w ≡ t / w + 2 = ap (λ (n : ℕ). n / w) (back ∙ omega arith) ∙ add-mul-div-left t 2 some in
+        ap (digit (above * 2 ^ (w + w) + (2 ^ w - 1))) back ∙ digit-above (w + w) above (2 ^ w - 1) t fits ∙ higher t back ∙ omega (arith, two)
+
+digit-stripes : (w m s : ℕ) → 0 < w → s < m * (w + w) → digit (stripes w m) s ≡ 1 - s / w % 2
+unfolding stripes
+digit-stripes w zero s some h = absurd (omega arith)
+digit-stripes w (suc m) s some h = stripe-below w (stripes w m) s some (λ t e. digit-stripes w m t some (omega (arith, e)))
+
+-- ---- the rule of the single options, over the number n of options: 2 ^ n settings
+
+-- of the settings below 2 ^ n, those in which option k is off
+unfoldable pub off : ℕ → ℕ → ℕ
+off n k = (2 ^ 2 ^ n - 1) / (2 ^ 2 ^ k + 1)
+
+digit-off : (n k s : ℕ) → k < n → s < 2 ^ n → digit (off n k) s ≡ 1 - digit s k
+unfolding digit off
+digit-off n k s hk h = rw (whole, stripes-are (2 ^ k) (2 ^ j)) (digit-stripes (2 ^ k) (2 ^ j) s (pow-pos k) (rw whole at h))
+  where
+    j : ℕ
+    j = n - suc k
+
+    whole : 2 ^ n ≡ 2 ^ j * (2 ^ k + 2 ^ k)
+    whole =
+        let split : n ≡ j + suc k = omega arith in
+        ap (λ (i : ℕ). 2 ^ i) split ∙ pow-add 2 j (suc k) ∙ ap (λ (i : ℕ). 2 ^ j * i) (two-pow-succ k)
+
+on-not : (x y : ℕ) → x < 2 → y < 2 → not (eqb (1 - x) 1) ≡ eqb x 1
+on-not = on-digits (λ x y. not (eqb (1 - x) 1) ≡ eqb x 1) refl refl refl refl
+
+-- what is left of a set over n options when those settings are taken away
+pub option-left : (n full k s : ℕ) → full < 2 ^ 2 ^ n → k < n → (bit full s && not (bit (off n k) s)) ≡ (bit full s && bit s k)
 unfolding bit
-option-meet n xs t full k s hf hk = go (decLt s n)
+option-left n full k s hf hk = go (decLt s (2 ^ n))
   where
-    from-0 : 0 + k ≡ k
-    from-0 = omega arith
+    go : Dec (s < 2 ^ n) → (bit full s && not (bit (off n k) s)) ≡ (bit full s && bit s k)
+    go (yes h) = rw (digit-off n k s hk h, on-not (digit s k) (digit s k) (digit-lt s k) (digit-lt s k))
+    go (no h) = rw (digit-past (2 ^ n) full s hf (omega arith))
 
-    go : Dec (s < n) → (bit full s && bit (getD xs k 0) s) ≡ (bit full s && bit s k)
-    go (yes h) = rw (row-at n 0 xs k s t hk h, from-0)
-    go (no h) = rw (digit-past n full s hf (omega arith))
-
--- in a set of settings below 2 ^ j no setting has option j, or one above, on
-pub option-none : (j full k s : ℕ) → full < 2 ^ 2 ^ j → j ≤ k → (bit full s && bit s k) ≡ false
-option-none j full k s hf hk = go (decLt s (2 ^ j))
+-- in a set over n options no setting has option n, or one above, on
+pub option-none : (n full k s : ℕ) → full < 2 ^ 2 ^ n → n ≤ k → (bit full s && bit s k) ≡ false
+option-none n full k s hf hk = go (decLt s (2 ^ n))
   where
-    go : Dec (s < 2 ^ j) → (bit full s && bit s k) ≡ false
-    go (yes h) = rw (bit-past j s k h hk, and-false)
-    go (no h) = rw (bit-past (2 ^ j) full s hf (omega arith))
+    go : Dec (s < 2 ^ n) → (bit full s && bit s k) ≡ false
+    go (yes h) = rw (bit-past n s k h hk, and-false)
+    go (no h) = rw (bit-past (2 ^ n) full s hf (omega arith))

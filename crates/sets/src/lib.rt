@@ -21,16 +21,6 @@ pub enum Full {
 // Every setting below 64.
 const ALL: u64 = 0xFFFF_FFFF_FFFF_FFFF;
 
-// "The six sets of the single options, over 64 settings, are kept as a table of constants": entry k has the settings with option k on.
-const OPTIONS: [u64; 6] = [
-    0xAAAA_AAAA_AAAA_AAAA,
-    0xCCCC_CCCC_CCCC_CCCC,
-    0xF0F0_F0F0_F0F0_F0F0,
-    0xFF00_FF00_FF00_FF00,
-    0xFFFF_0000_FFFF_0000,
-    0xFFFF_FFFF_0000_0000,
-];
-
 impl Set {
     pub fn empty() -> Set
         ensures { λ r. ⌜ r .bits ≡ 0 ⌝ }
@@ -127,7 +117,10 @@ impl Set {
         if 6 <= k {
             return Set { bits: 0 };
         }
-        let at = k as usize;
-        full.meet(Set { bits: OPTIONS[at] })
+        // All ones divided by 2^w + 1 are w ones and w zeros in turn; with w = 2^k the ones are the settings in which option k is off.
+        let stripe = 1u64 << k;
+        full.take_away(Set {
+            bits: ALL / ((1u64 << stripe) + 1),
+        })
     }
 }
