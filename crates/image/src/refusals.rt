@@ -23,53 +23,43 @@ pub enum Refusal {
     TooMany(usize),
 }
 
-// The refusal's number in the papers' table.
+// A refusal's number and its place.
+struct Tabled(u32, usize);
+
+// The papers' table.
+fn in_table(r: Refusal) -> Tabled
+    ensures { λ t. ⌜ (t .0 ≡ number-of r) × (t .1 ≡ place-of r) ⌝ }
+{
+    match r {
+        Refusal::ImageShort => Tabled(1, 0),
+        Refusal::EditionWrong => Tabled(2, 0),
+        Refusal::CountsWrong => Tabled(3, 0),
+        Refusal::LengthWrong => Tabled(4, 0),
+        Refusal::ConditionWrong(k) => Tabled(5, k),
+        Refusal::NodeWrong(n) => Tabled(6, n),
+        Refusal::ClassWrong(n) => Tabled(7, n),
+        Refusal::NamedWrong(n) => Tabled(8, n),
+        Refusal::SetBeyond => Tabled(9, 0),
+        Refusal::BudgetOver => Tabled(10, 0),
+        Refusal::SettingBeyond => Tabled(11, 0),
+        Refusal::LentWrong => Tabled(12, 0),
+        Refusal::ChoiceHeld(n) => Tabled(13, n),
+        Refusal::SpaceShort => Tabled(14, 0),
+        Refusal::ConditionBeyond => Tabled(15, 0),
+        Refusal::InputShort => Tabled(16, 0),
+        Refusal::TextWrong(at) => Tabled(17, at),
+        Refusal::TooMany(at) => Tabled(18, at),
+    }
+}
+
 pub fn number(r: Refusal) -> u32
     ensures { λ n. ⌜ n ≡ number-of r ⌝ }
 {
-    match r {
-        Refusal::ImageShort => 1,
-        Refusal::EditionWrong => 2,
-        Refusal::CountsWrong => 3,
-        Refusal::LengthWrong => 4,
-        Refusal::ConditionWrong(_) => 5,
-        Refusal::NodeWrong(_) => 6,
-        Refusal::ClassWrong(_) => 7,
-        Refusal::NamedWrong(_) => 8,
-        Refusal::SetBeyond => 9,
-        Refusal::BudgetOver => 10,
-        Refusal::SettingBeyond => 11,
-        Refusal::LentWrong => 12,
-        Refusal::ChoiceHeld(_) => 13,
-        Refusal::SpaceShort => 14,
-        Refusal::ConditionBeyond => 15,
-        Refusal::InputShort => 16,
-        Refusal::TextWrong(_) => 17,
-        Refusal::TooMany(_) => 18,
-    }
+    in_table(r).0
 }
 
 pub fn place(r: Refusal) -> usize
     ensures { λ p. ⌜ p ≡ place-of r ⌝ }
 {
-    match r {
-        Refusal::ConditionWrong(k) => k,
-        Refusal::NodeWrong(n) => n,
-        Refusal::ClassWrong(n) => n,
-        Refusal::NamedWrong(n) => n,
-        Refusal::ChoiceHeld(n) => n,
-        Refusal::TextWrong(at) => at,
-        Refusal::TooMany(at) => at,
-        Refusal::ImageShort => 0,
-        Refusal::EditionWrong => 0,
-        Refusal::CountsWrong => 0,
-        Refusal::LengthWrong => 0,
-        Refusal::SetBeyond => 0,
-        Refusal::BudgetOver => 0,
-        Refusal::SettingBeyond => 0,
-        Refusal::LentWrong => 0,
-        Refusal::SpaceShort => 0,
-        Refusal::ConditionBeyond => 0,
-        Refusal::InputShort => 0,
-    }
+    in_table(r).1
 }

@@ -7,14 +7,14 @@ use native.Mathlib.Omega.{arith}
 use lib.ListN.{length, take, drop, length-append, length-take}
 use lib.Seq.{length-take-le, take-append-seam}
 use Rattle.image.specs.Bytes.{Bytes, over}
-use Rattle.image.specs.Rows.{Row, Answer, refused, answer, judge, written}
+use Rattle.image.specs.Rows.{Row, Answer, refused, answer, judge}
 use Rattle.listing.specs.declared.Listed.{Listed}
 use Rattle.listing.specs.declared.Listed.the-variants.{Length, Refused}
 use Rattle.listing.specs.Lists.{listing-of, list-rows, Lists}
 use Rattle.streams.specs.Theorem.Whole.{whole}
 use Rattle.lister.specs.Stream.{most, enough, Tells, as-told, Inside}
 use Rattle.lister.specs.Theorem.Cut.{cut}
-use Rattle.lister.proofs.Judged.{mapped, judge-maps, same-answer, no-answer, answered-is, all-written}
+use Rattle.lister.proofs.Judged.{mapped, judge-maps, no-answer, answered-is, all-written}
 
 -- ---- one call
 

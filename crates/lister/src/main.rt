@@ -11,9 +11,8 @@ use libc::STDERR_FILENO;
 use libc::STDOUT_FILENO;
 use listing::Listed;
 use listing::list;
-use streams::Input;
+use streams::read_input;
 use streams::refuse;
-use streams::take;
 
 // One byte beyond the longest image: a stream that goes on is no image, and its refusal needs no later byte.
 const MOST: usize = 9225;
@@ -71,11 +70,10 @@ fn answer_to(image: &[u8], n: usize)
 
 fn main() {
     let mut image = [0u8; MOST];
-    match take(&mut image) {
-        Input::Whole(n) => answer_to(&image, n),
-        Input::Full => answer_to(&image, MOST),
-        Input::Failed => {
-            io::write_all(STDERR_FILENO, b"lister: the image cannot be read\n");
-        }
+    let got = read_input(&mut image);
+    if got.failed {
+        io::write_all(STDERR_FILENO, b"lister: the image cannot be read\n");
+        return;
     }
+    answer_to(&image, got.bytes)
 }

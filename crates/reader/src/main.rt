@@ -12,9 +12,8 @@ use libc::STDERR_FILENO;
 use libc::STDOUT_FILENO;
 use reading::ReadText;
 use reading::read;
-use streams::Input;
+use streams::read_input;
 use streams::refuse;
-use streams::take;
 
 // A text of 256 KiB, and a byte by which its end is seen.
 const SPACE: usize = 262145;
@@ -70,16 +69,17 @@ fn answer_to(text: &[u8], n: usize)
 
 fn main() {
     let mut text = blank();
-    match take(&mut text) {
-        Input::Whole(n) => answer_to(&text, n),
-        Input::Full => {
-            io::write_all(
-                STDERR_FILENO,
-                b"reader: the text is longer than 262,144 bytes\n",
-            );
-        }
-        Input::Failed => {
-            io::write_all(STDERR_FILENO, b"reader: the text cannot be read\n");
-        }
+    let got = read_input(&mut text);
+    if got.failed {
+        io::write_all(STDERR_FILENO, b"reader: the text cannot be read\n");
+        return;
     }
+    if got.bytes == SPACE {
+        io::write_all(
+            STDERR_FILENO,
+            b"reader: the text is longer than 262,144 bytes\n",
+        );
+        return;
+    }
+    answer_to(&text, got.bytes)
 }

@@ -1,6 +1,6 @@
 -- A token is read from its first byte on, and what it opens is counted: the ways behind it.
 use mathlib.Core.Path.{_≡_, refl, sym, _∙_, ap, ap₂, subst}
-use Prim.Native.Nat.{ℕ, _+_, _-_, _≤_, _<_}
+use Prim.Native.Nat.{ℕ, _+_, _≤_, _<_}
 use mathlib.Core.Bool.{Bool, true, false, not, cond, _&&_, _||_, true≢false}
 use mathlib.Core.List.{[], _∷_, reverse}
 use mathlib.Core.Logic.{_⊎_, inl, inr}

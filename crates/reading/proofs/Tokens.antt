@@ -1,6 +1,6 @@
 -- What the bytes of a token do to the answer: a word or number that is there is read, and the first byte that does not fit is the place of Refusal 17.
 use mathlib.Core.Path.{_≡_, refl, sym, _∙_, ap, ap₂, subst}
-use Prim.Native.Nat.{ℕ, suc, _+_, _-_, _≤_, _<_}
+use Prim.Native.Nat.{ℕ, suc, _+_, _≤_, _<_}
 use mathlib.Core.Bool.{Bool, true, false, cond, _&&_}
 use mathlib.Core.List.{[], _∷_, reverse}
 use mathlib.Core.Logic.{_⊎_, inl, inr}

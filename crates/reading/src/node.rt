@@ -1,10 +1,6 @@
 // What stands behind a node's first part, and the node's own word once its parts are written.
-ghost use mathlib.Core.Path.{_≡_};
-ghost use Prim.Native.Nat.{_-_, _^_, _≤_, _<_};
-ghost use lib.ListN.{length};
-ghost use Rattle.image.specs.Layout.{layout, class-digit, variable-digit};
+ghost use Prim.Native.Nat.{_-_, _≤_, _<_};
 ghost use Rattle.reading.specs.Inner.Way.{Good};
-ghost use Rattle.reading.specs.Inner.Parts.{slot-of};
 ghost use Rattle.reading.specs.Inner.Lead.{LeadFrom};
 ghost use Rattle.reading.specs.Inner.Node.{VariableWay, BehindA};
 use super::bytes::byte_at;

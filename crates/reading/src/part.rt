@@ -1,5 +1,4 @@
 // A part of a routine, whatever its class: the token that it begins with, then its own parts with the marks between them, then the node itself.
-ghost use mathlib.Core.Path.{_≡_};
 ghost use Prim.Native.Nat.{_≤_, _<_};
 ghost use Rattle.reading.specs.Inner.Parts.{slot-of};
 ghost use Rattle.reading.specs.Inner.Node.{PartReady, ReadsPart, FieldsReady, ReadsFields};

@@ -5,16 +5,14 @@ ghost use mathlib.Core.Bool.{cond};
 ghost use lib.Dec.{eqb};
 ghost use lib.ListN.{length, drop};
 ghost use Rattle.reading.specs.Inner.Way.{Good};
-ghost use Rattle.reading.specs.Inner.Spelling.{agree, more-digits, made};
-ghost use Rattle.reading.specs.Inner.Token.{opens-of, counted-to, word-to, fixed-to};
+ghost use Rattle.reading.specs.Inner.Spelling.{agree};
+ghost use Rattle.reading.specs.Inner.Token.{opens-of, counted-to, word-to};
 use super::bytes::byte_at;
-use super::bytes::is_digit;
 use super::bytes::is_run;
 use super::bytes::is_wordy;
 use super::cursor::Cursor;
 use super::cursor::TEXT_WRONG;
 use super::cursor::TOO_MANY;
-use super::spaces::to_token;
 
 // What a token opens.
 pub const NOTHING: u32 = 0;

@@ -9,8 +9,7 @@ use libc::STDOUT_FILENO;
 use lines::ENOUGH;
 use lines::Report;
 use lines::report;
-use streams::Input;
-use streams::take;
+use streams::read_input;
 
 // "one beyond the longest possible input"
 const MOST: usize = 9237;
@@ -51,11 +50,10 @@ fn answer_to(input: &[u8], n: usize)
 // "it reads no more than 9,237 bytes"
 fn main() {
     let mut input = [0u8; MOST];
-    match take(&mut input) {
-        Input::Whole(n) => answer_to(&input, n),
-        Input::Full => answer_to(&input, MOST),
-        Input::Failed => {
-            io::write_all(STDERR_FILENO, b"report: the input cannot be read\n");
-        }
+    let got = read_input(&mut input);
+    if got.failed {
+        io::write_all(STDERR_FILENO, b"report: the input cannot be read\n");
+        return;
     }
+    answer_to(&input, got.bytes)
 }

@@ -4,53 +4,55 @@ ghost use Prim.Native.Nat.{_≤_};
 ghost use lib.ListN.{length};
 ghost use Rattle.image.specs.Refusals.{number-of, place-of};
 ghost use Rattle.lines.specs.Text.{refusal-line};
-ghost use Rattle.streams.specs.Streams.{most, Within, Fits};
+ghost use Rattle.streams.specs.Streams.{most};
 use image::refusals::Refusal;
 use libc::STDERR_FILENO;
 use libc::STDIN_FILENO;
 use lines::put_refusal;
 
-// How many bytes the input has; or it fills the space, so that its end was not seen; or it cannot be read.
-pub enum Input {
-    Whole(usize),
-    Full,
-    Failed,
+// How many bytes were read, and whether reading failed. An input that has filled its space may go on.
+pub struct Input {
+    pub bytes: usize,
+    pub failed: bool,
 }
 
-enum Reading {
-    Got(usize),
-    Failed,
-}
-
-// One read: no bytes at the end of the input.
-fn read_once(part: &mut [u8]) -> Reading
-    ensures { λ r. ⌜ Within (length (now (part .exit))) r ⌝ }
+// One read: no bytes at the end of the input, and none where it failed.
+fn read_once(part: &mut [u8]) -> Input
+    ensures { λ r. ⌜ r .bytes ≤ length (now (part .exit)) ⌝ }
 {
     let got = libc::read(STDIN_FILENO, part);
     if got < 0 {
-        return Reading::Failed;
+        return Input {
+            bytes: 0,
+            failed: true,
+        };
     }
-    Reading::Got(io::count(got, part))
+    Input {
+        bytes: io::count(got, part),
+        failed: false,
+    }
 }
 
 // Until the input ends or `space` is full, whichever is first.
-pub fn take(space: &mut [u8]) -> Input
+pub fn read_input(space: &mut [u8]) -> Input
     requires { ⌜ length (now space) ≤ most ⌝ }
-    ensures { λ r. ⌜ Fits (length (now (space .exit))) r ⌝ }
+    ensures { λ r. ⌜ r .bytes ≤ length (now (space .exit)) ⌝ }
 {
     let mut done: usize = 0;
     while done < space.len() {
-        match read_once(&mut space[done..]) {
-            Reading::Failed => return Input::Failed,
-            Reading::Got(more) => {
-                if more == 0 {
-                    return Input::Whole(done);
-                }
-                done += more;
-            }
+        let more = read_once(&mut space[done..]);
+        if more.bytes == 0 {
+            return Input {
+                bytes: done,
+                failed: more.failed,
+            };
         }
+        done += more.bytes;
     }
-    Input::Full
+    Input {
+        bytes: done,
+        failed: false,
+    }
 }
 
 // Writes nothing but the line of this refusal.

@@ -1,5 +1,5 @@
 -- The reader as a machine over bytes: a stack of what is still to come, and a step for each byte. Nothing is guessed and nothing read twice.
-use Prim.Native.Nat.{ℕ, zero, suc, _+_, _-_, _*_, _^_}
+use Prim.Native.Nat.{ℕ, zero, suc, _+_, _-_, _*_}
 use mathlib.Core.Bool.{Bool, true, false, _&&_}
 use mathlib.Core.List.{List, [], _∷_, reverse}
 use mathlib.Core.Option.{Option, none, some}
@@ -11,7 +11,7 @@ use Rattle.image.specs.Bytes.{Bytes}
 use Rattle.written.specs.Byte.{is-space, is-digit, is-wordy}
 use lib.ListN.{length}
 use Rattle.written.specs.Token.{Lexeme, Opens, nothing, node, record-of, Spot, LAST-VARIABLE, MOST-OPTIONS, HIGHEST}
-use Rattle.written.specs.Word.{OPTIONS, SKIP, IF, THEN, ELSE, WHILE, DO, THROW, TRY, CATCH, WITH, TRUE, FALSE, NOT, BOTH, PICK, AND, OR, GETS, LEFT, RIGHT, PLUS, BELOW, BRACE, SEMI, UNBRACE, ASK, COLON, BRACKET, UNBRACKET}
+use Rattle.written.specs.Word.{OPTIONS, SKIP, IF, THEN, ELSE, WHILE, DO, CATCH, WITH, TRUE, FALSE, NOT, BOTH, PICK, AND, OR, GETS, LEFT, RIGHT, PLUS, BELOW, BRACE, SEMI, UNBRACE, ASK, COLON, BRACKET, UNBRACKET}
 
 -- ---- what is still to come
 

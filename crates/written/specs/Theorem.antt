@@ -34,4 +34,3 @@ pub mod From
 pub mod ImageTree
 pub mod ListRead
 pub mod ConfiguredBack
-pub mod ListedImage

@@ -1,5 +1,4 @@
 -- What a reader answers to a text, by the grammar alone: the image, or a refusal with its number and place.
-use mathlib.Core.Path.{_≡_}
 use Prim.Native.Nat.{ℕ, _≤_, _<_}
 use lib.ListN.{length}
 use Rattle.imp.specs.Condition.{Condition}

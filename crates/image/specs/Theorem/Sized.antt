@@ -82,14 +82,6 @@ module _ (l : List ℕ) (C P : ℕ) (fits : (n : ℕ) → n < P → node-fits C 
   sized : (n : ℕ) → n < P → node-size l n ≡ length (listing l n)
   sized n h = omega (arith, length-over (listing l n), over-tree l C P fits (node-size l) (λ x. 1) (λ x. 0) step n h, over-none (listing l n))
 
-  pub arithmetic-nodes : (n : ℕ) → n < P → class l n ≡ 1 → sizeᵃ (read l n .arithmetic) ≡ length (listing l n)
-  unfolding size-in
-  arithmetic-nodes n h c = rw c at (sized n h)
-
-  pub boolean-nodes : (n : ℕ) → n < P → class l n ≡ 2 → sizeᵇ (read l n .boolean) ≡ length (listing l n)
-  unfolding size-in
-  boolean-nodes n h c = rw c at (sized n h)
-
   pub statement-nodes : (n : ℕ) → n < P → class l n ≡ 3 → sizeˢ (read l n .statement) ≡ length (listing l n)
   unfolding size-in
   statement-nodes n h c = rw c at (sized n h)

@@ -1,9 +1,9 @@
 -- (e) The reader's whole answer is the definitions': Refusal 18 exactly where they say so, else Refusal 17 where they say so, else the reading.
 use mathlib.Core.Path.{_≡_, refl, sym, _∙_, ap, subst}
 use mathlib.Core.Logic.{_↔_, _⊎_, inl, inr, _≢_}
-use Prim.Native.Nat.{ℕ, zero, suc, _+_, _≤_, _<_}
+use Prim.Native.Nat.{ℕ, suc, _+_, _≤_}
 use mathlib.Core.Bool.{Bool, true, false, not, _&&_}
-use mathlib.Core.List.{List, [], _∷_, _++_, reverse, reverseAux}
+use mathlib.Core.List.{List, [], _∷_, _++_, reverse}
 use mathlib.Core.Option.{Option, none, some}
 use native.Mathlib.Omega.{arith}
 use lib.Dec.{T, leb, leb→le, le→leb}
@@ -13,19 +13,19 @@ use Rattle.imp.specs.Routine.{Statement}
 use Rattle.image.specs.Bytes.{Bytes}
 use Rattle.written.specs.Byte.{is-run}
 use Rattle.written.specs.Token.{Spot}
-use Rattle.written.specs.Grammar.{Placed, Reads, Viable, Refused-17}
+use Rattle.written.specs.Grammar.{Placed, Refused-17}
 use Rattle.written.specs.Machine.{Result, State, step, start, Outcome, read, refused, outcome}
 use Rattle.written.specs.Limits.{too-many, runs-on, whole-in, Refused-18}
 use Rattle.written.specs.Answer.{so-far, or-stay, last, or-none, reach, Answer, gives, refused-17, refused-18, within, by-whole, limited, answer}
 use Rattle.written.specs.Theorem.Language.{Lang, Then}
 use Rattle.written.specs.Theorem.Spacing.{is-on, and-parts, and-both}
 use Rattle.written.specs.Theorem.Steps.{step-sound}
-use Rattle.written.specs.Theorem.Ends.{Live, live}
+use Rattle.written.specs.Theorem.Ends.{live}
 use Rattle.written.specs.Theorem.Reader.{result, start-sound, start-complete, reads-placed}
-use Rattle.written.specs.Theorem.Places.{together, take-more, viable-before, refuses}
+use Rattle.written.specs.Theorem.Places.{together, take-more, refuses}
 use Rattle.written.specs.Theorem.Scan.{kept-more}
 use Rattle.written.specs.Theorem.Now.{Now}
-use Rattle.written.specs.Theorem.Limits.{Noted, settled, stays, last-lang, reach-most, now-last, lang-last, Same, last-more}
+use Rattle.written.specs.Theorem.Limits.{settled, stays, last-lang, reach-most, now-last, lang-last, Same, last-more}
 
 -- ---- answers apart
 

@@ -1,7 +1,7 @@
 -- (f) An image of a tree reads back as the tree: each condition record and node stands where the tree's order puts it.
-use mathlib.Core.Path.{_≡_, refl, sym, _∙_, ap, ap₂, subst}
-use Prim.Native.Nat.{ℕ, zero, suc, _+_, _-_, _*_, _/_, _%_, _^_, _≤_, _<_}
-use mathlib.Core.List.{List, [], _∷_, _++_}
+use mathlib.Core.Path.{_≡_, _∙_, ap, ap₂, subst}
+use Prim.Native.Nat.{ℕ, suc, _+_, _-_, _≤_, _<_}
+use mathlib.Core.List.{List, [], _∷_}
 use native.Mathlib.Omega.{arith}
 use lib.IntN.{ℤ}
 use mir.Syntax.{w32}
@@ -17,7 +17,7 @@ use Rattle.image.specs.Listing.{sizeᵃ, sizeᵇ, sizeˢ}
 use Rattle.image.specs.Term.{condition-word}
 use Rattle.image.specs.Theorem.Reading as At
 use Rattle.image.specs.Theorem.Words.{number-back}
-use Rattle.image.specs.Theorem.Fine.{Stands, stands}
+use Rattle.image.specs.Theorem.Fine.{stands}
 use Rattle.written.specs.Under.{Underᶜ, Underᵃ, Underᵇ, Under}
 use Rattle.written.specs.Count.{sizeᶜ, recordsᵃ, recordsᵇ, recordsˢ}
 use Rattle.written.specs.Image.{wordsᶜ, choicesᵃ, choicesᵇ, choicesˢ, nodesᵃ, nodesᵇ, nodesˢ}

@@ -1,20 +1,20 @@
 -- The end of a text, and that from every state some text goes on to it.
 use mathlib.Core.Path.{_≡_, refl, sym, _∙_, ap, subst}
-use Prim.Native.Nat.{ℕ, zero, suc, _+_}
+use Prim.Native.Nat.{ℕ, suc, _+_}
 use mathlib.Core.Bool.{Bool, true, false}
 use mathlib.Core.List.{List, [], _∷_, _++_, reverse, reverseAux}
 use lib.ListN.{length}
 use mathlib.Core.Option.{Option, none, some}
 use native.Mathlib.Omega.{arith}
-use lib.IntN.{ℤ, pos, negsuc}
+use lib.IntN.{pos}
 use Rattle.imp.specs.Condition.{Condition, falseᶜ, trueᶜ, option, notᶜ, andᶜ, orᶜ}
 use Rattle.imp.specs.Routine.{Arithmetic, number, variable, sum, pick, choiceᵃ, Boolean, falseᵇ, trueᵇ, notᵇ, andᵇ, less, choiceᵇ, Statement, skip, assign, sequence, if, while, throw, try, choice}
 use Rattle.image.specs.Bytes.{Bytes}
-use Rattle.written.specs.Token.{Token, nothing, node, fixed, tight, opens, Extends, Decimal, Behind, Spells, Spot, spot-of, Spaced, end, space, next}
+use Rattle.written.specs.Token.{Token, nothing, node, fixed, tight, Extends, Decimal, Behind, Spells, Spot, spot-of, Spaced, end, space, next}
 use Rattle.written.specs.Grammar.{of-condition, of-arithmetic, of-boolean, of-statement}
-use Rattle.written.specs.Machine.{Result, Log, Begun, noted, behind, Class, statements, arithmetics, booleans, conditions, variables, joins, counts, Value, Reading, Stack, done, mark, want, State, plain, fork, first, digits, low, look, forks, step, ended, final}
+use Rattle.written.specs.Machine.{Result, Log, Begun, noted, behind, Class, statements, arithmetics, booleans, conditions, variables, joins, counts, Value, Stack, done, mark, want, State, plain, fork, first, digits, low, look, forks, step, ended, final}
 use Rattle.written.specs.Answer.{so-far}
-use Rattle.written.specs.Theorem.Language.{Choices, Rest, spell, tokens-of, result-of, Left, Past, Counts, From, Upto, Lang, Then}
+use Rattle.written.specs.Theorem.Language.{Choices, Rest, spell, tokens-of, result-of, Left, Past, From, Upto, Lang, Then}
 use Rattle.written.specs.Theorem.Spacing.{not-empty}
 use Rattle.written.specs.Theorem.Leads.{fixed-back}
 use Rattle.written.specs.Theorem.Begins.{variable-head}

@@ -1,18 +1,18 @@
 -- What the code's contracts can say: the answer from a state, a place and the rest of the text on, and how one byte, a space, a word, a number's end and a
 -- token over a limit change it. Whatever stack a state has, it is handed on untouched.
-use mathlib.Core.Path.{_≡_, refl, sym, _∙_, ap, subst}
-use Prim.Native.Nat.{ℕ, zero, suc, _+_, _≤_, _<_}
+use mathlib.Core.Path.{_≡_, refl, sym, _∙_, ap}
+use Prim.Native.Nat.{ℕ, suc, _+_, _≤_}
 use mathlib.Core.Bool.{Bool, true, false, not, _&&_, _||_}
-use mathlib.Core.List.{List, [], _∷_, _++_, reverse}
+use mathlib.Core.List.{[], _∷_, _++_, reverse}
 use mathlib.Core.Option.{Option, none, some}
 use native.Mathlib.Omega.{arith}
-use lib.Dec.{T, T-not, leb, le→leb, eqb}
+use lib.Dec.{T, leb, le→leb}
 use lib.ListN.{length}
 use borrow.Author.Tests.{eq-eqb}
 use Rattle.image.specs.Bytes.{Bytes}
 use Rattle.written.specs.Byte.{is-space, is-digit, is-letter, is-wordy}
 use Rattle.written.specs.Token.{Spot}
-use Rattle.written.specs.Machine.{Result, Stack, Log, Begun, behind, State, plain, digits, when, past-space, between-by, between, digits-by, step, final, start, carry, at-end, go, outcome}
+use Rattle.written.specs.Machine.{Stack, Log, Begun, behind, State, plain, digits, when, past-space, between-by, between, digits-by, step, final, start, carry, go, outcome}
 use Rattle.written.specs.Limits.{too-many, runs-on, whole-in}
 use Rattle.written.specs.Answer.{so-far, or-stay, last, or-none, reach, Answer, refused-17, refused-18, within, by-whole, limited, answer}
 use Rattle.written.specs.Theorem.Spacing.{is-on, and-both}

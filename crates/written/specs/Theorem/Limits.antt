@@ -1,29 +1,26 @@
 -- What a state has noted of the tokens behind it: that a token over a limit which has ended is known, and stays so.
 use mathlib.Core.Path.{_≡_, refl, sym, _∙_, ap, subst}
-use mathlib.Core.Logic.{_↔_, _⊎_, inl, inr}
-use Prim.Native.Nat.{ℕ, zero, suc, _+_, _-_, _≤_, _<_}
-use mathlib.Core.Bool.{Bool, true, false, not, _&&_, _||_}
+use Prim.Native.Nat.{ℕ, suc, _+_, _≤_, _<_}
+use mathlib.Core.Bool.{Bool, true, false, not, _&&_}
 use mathlib.Core.List.{List, [], _∷_, _++_, reverse, reverseAux}
 use mathlib.Core.Option.{Option, none, some}
 use native.Mathlib.Omega.{arith}
-use lib.Dec.{T, T-not, leb, leb→le, le→leb}
-use lib.ListN.{length, take, drop, length-take}
+use lib.Dec.{T, T-not}
+use lib.ListN.{length, take}
 use Rattle.imp.specs.Condition.{Condition}
 use Rattle.imp.specs.Routine.{Statement}
 use Rattle.image.specs.Bytes.{Bytes}
 use Rattle.written.specs.Byte.{is-digit, is-letter, is-run}
-use Rattle.written.specs.Token.{node, Spot, Decimal, Spaced}
-use Rattle.written.specs.Grammar.{Placed, Refused-17}
-use Rattle.written.specs.Machine.{statements, Result, Stack, want, Log, Begun, noted, behind, State, plain, fork, first, digits, look, forks, step, final, start, Outcome, read, refused, carry, at-end, go, outcome}
-use Rattle.written.specs.Limits.{over, too-many, runs-on, whole-in, Refused-18}
-use Rattle.written.specs.Answer.{so-far, or-stay, last, or-none, reach, Answer, gives, refused-17, refused-18, within, by-whole, limited, answer}
-use Rattle.written.specs.Theorem.Language.{Choices, spell, tokens-of, result-of, Rest, Left, Past, Counts, From, Upto, Lang, Then}
-use Rattle.written.specs.Theorem.Spacing.{or-left, and-parts, and-both}
+use Rattle.written.specs.Token.{node, Spot, Decimal}
+use Rattle.written.specs.Machine.{statements, Result, Stack, want, Log, Begun, noted, behind, State, plain, fork, first, digits, forks, step, final}
+use Rattle.written.specs.Limits.{too-many}
+use Rattle.written.specs.Answer.{so-far, or-stay, last, or-none, reach}
+use Rattle.written.specs.Theorem.Language.{Left, Past, From, Upto, Lang, Then}
+use Rattle.written.specs.Theorem.Spacing.{or-left, and-both}
 use Rattle.written.specs.Theorem.Decimals.{shorter}
-use Rattle.written.specs.Theorem.Leads.{All, look-sound}
+use Rattle.written.specs.Theorem.Leads.{look-sound}
 use Rattle.written.specs.Theorem.Steps.{step-sound, step-complete}
-use Rattle.written.specs.Theorem.Ends.{final-complete, Live, live}
-use Rattle.written.specs.Theorem.Reader.{result, start-sound, start-complete}
+use Rattle.written.specs.Theorem.Ends.{final-complete}
 use Rattle.written.specs.Theorem.Scan.{Every, kept-more, kept-less, later}
 use Rattle.written.specs.Theorem.Now.{Now, Now?, now-step}
 

@@ -17,9 +17,7 @@ use Rattle.written.specs.Token as Of
 use Rattle.written.specs.Word.{OPTIONS, SKIP, IF, THEN, ELSE, WHILE, DO, THROW, TRY, CATCH, WITH, TRUE, FALSE, NOT, BOTH, PICK, AND, OR, GETS, LEFT, RIGHT, PLUS, BELOW, BRACE, SEMI, UNBRACE, ASK, COLON, BRACKET, UNBRACKET}
 use Rattle.written.specs.Grammar.{of-condition, of-arithmetic, of-boolean, of-statement, of-routine, Placed, Reads}
 use Rattle.written.specs.Under.{Underᶜ, Underᵃ, Underᵇ, Under}
-use Rattle.written.specs.Machine.{read, outcome}
 use Rattle.written.specs.Lister.{listedᶜ, listedᵃ, listedᵇ, DEEPEST, spaces, line, gap, short, listedˢ, listed}
-use Rattle.written.specs.Theorem.Reader.{result, reads}
 use Rattle.written.specs.Theorem.Spelled.{variable-spelled, option-spelled, count-spelled, number-spelled}
 
 -- ---- texts of tokens
@@ -180,7 +178,3 @@ unfolding listed Reads Placed of-routine
 listed-is F t h v u =
     (word nothing OPTIONS (spaced 32 tt (token (count F) (decimal F) (count-spelled F h)
     (spaced 10 tt (sits F h 0 t v u (10 ∷ []) (spaced 10 tt (still ended))))))) .here 0
-
--- and "reading it gives back F and the tree"
-pub listed-read : (F : ℕ) (t : Statement Condition) → F ≤ 6 → Valid t → Under F t → (ms : List Spot) × (outcome (listed F t) ≡ read (result F t ms))
-listed-read F t h v u = (reads (listed F t) F t) .0 (listed-is F t h v u)

@@ -1,7 +1,7 @@
 -- A reading is given exactly where the text is of the grammar and the tree has at most 1,024 nodes and 256 conditions written out.
 use mathlib.Core.Path.{_≡_, refl, sym, _∙_, ap, subst}
 use mathlib.Core.Logic.{_↔_}
-use Prim.Native.Nat.{ℕ, zero, suc, _+_, _≤_, _<_}
+use Prim.Native.Nat.{ℕ, zero, suc, _+_, _≤_}
 use mathlib.Core.Bool.{Bool}
 use mathlib.Core.List.{List, [], _∷_, _++_, reverse}
 use mathlib.Core.Option.{Option, none, some}
@@ -14,9 +14,9 @@ use Rattle.written.specs.Token as Of
 use Rattle.written.specs.Word.{AND, OR, RIGHT, PLUS, ASK, COLON, UNBRACKET, BELOW, SEMI, UNBRACE, THEN, ELSE, DO, CATCH, WITH}
 use Rattle.written.specs.Token.{Token, fixed, Opens, nothing, node, record-of, opens, Spot, Spaced, end, space, next}
 use Rattle.written.specs.Grammar.{of-condition, of-arithmetic, of-boolean, of-statement, of-routine, Placed}
-use Rattle.written.specs.Machine.{Result, Log, behind, State, plain, fork, first, digits, done, mark, want, Stack, final, start, ended, outcome}
+use Rattle.written.specs.Machine.{Result, Log, behind, State, plain, fork, first, digits, done, mark, want, Stack, final, start, ended}
 use Rattle.written.specs.Limits.{over-by, over, too-many, Refused-18}
-use Rattle.written.specs.Answer.{so-far, last, Answer, gives, answer}
+use Rattle.written.specs.Answer.{so-far, last, gives, answer}
 use Rattle.written.specs.Count.{sizeᶜ, recordsᵃ, recordsᵇ, recordsˢ}
 use Rattle.written.specs.Theorem.Language.{Lang}
 use Rattle.written.specs.Theorem.Ends.{final-complete}

@@ -84,17 +84,6 @@ told-holds text R e =
     let k = (gives-within text (R .reading .options) (R .reading .tree) (R .placed)) .1 e in
     record { reads = (R .placed, k .0); few-nodes = k .1; few-records = k .2 }
 
--- what each answer of the machine means
-abbrev pub ByMachine : Bytes → ℕ → Machine.Answer → Type 0
-ByMachine text space (gives R) = Holds text (R .reading .options) (R .reading .tree)
-ByMachine text space (refused-17 p) = Told text space (refused 17 p)
-ByMachine text space (refused-18 p) = Told text space (refused 18 p)
-
-pub by-machine : (text : Bytes) (space : ℕ) (A : Machine.Answer) → Machine.answer text ≡ A → ByMachine text space A
-by-machine text space (gives R) e = told-holds text R e
-by-machine text space (refused-17 p) e = told-17 text space p e
-by-machine text space (refused-18 p) e = told-18 text space p e
-
 -- ---- there is one
 
 holds-told : (text : Bytes) (space F : ℕ) (t : Statement Condition) → Holds text F t → (a : Answer Bytes) × Told text space a

@@ -7,11 +7,9 @@ use Rattle.shared.proofs.turn.for_some.Reads as reads
 use Rattle.shared.proofs.turn.for_some.Lts as lts
 use Rattle.sets.proofs.Set.is_empty.Reads as is-empty-reads
 
--- src/turn.rt:41:6
 is-empty-requires : tie.Need-is-empty-requires
 is-empty-requires c κs = search needs
 
--- src/turn.rt:38:1
 returns : tie.Need-returns
 returns c = ap not (c .is-empty .ensures)
 

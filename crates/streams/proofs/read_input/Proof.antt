@@ -1,15 +1,13 @@
--- `take` meets its contract: each turn leaves fewer bytes to fill.
-use mathlib.Core.Path.{_≡_, _∙_, subst}
+-- `read_input` meets its contract: each turn leaves fewer bytes to fill.
+use mathlib.Core.Path.{_≡_, _∙_}
 use mathlib.Core.List.{List}
 use Prim.Native.Nat.{ℕ, _-_, _≤_}
 use native.Mathlib.Omega.{arith}
 use lib.ListN.{length}
 use borrow.Author.Needs.{needs}
 use borrow.Rule.Slice.PartMut.{putMid, same-len-mid, mid-len}
-use Rattle.streams.specs.declared.Reading.the-variants.{Got}
-use Rattle.streams.specs.Streams.{Within}
-use Rattle.streams.proofs.take.Statement.{statement}
-use Rattle.streams.proofs.take.Tie as tie
+use Rattle.streams.proofs.read_input.Statement.{statement}
+use Rattle.streams.proofs.read_input.Tie as tie
 
 abbrev Inv-loop : tie.InvT-loop
 Inv-loop space₀ done₀ space done = (done ≤ length space) × (length space ≡ length space₀)
@@ -38,8 +36,8 @@ module _ (r : tie.After-read-once Inv-loop μ-loop) where
   same-start : length back ≡ length (r .before .before .before .before .before .args .space .now)
   same-start = same-space ∙ r .before .before .before .loop .inv .1
 
-  in-part : {more : ℕ} → r .read-once .result ≡ Got more → more ≤ length space - done
-  in-part e = omega (arith, part-length, subst (Within (length (r .read-once .last .0))) e (r .read-once .ensures))
+  in-part : r .read-once .result .bytes ≤ length space - done
+  in-part = omega (arith, part-length, r .read-once .ensures)
 
 loop-holds : tie.Need-loop-holds Inv-loop μ-loop
 loop-holds c = search needs
@@ -56,47 +54,31 @@ part-read-once-end c = search needs
 read-once-requires : tie.Need-read-once-requires Inv-loop μ-loop
 read-once-requires c κs = search needs
 
-enum-told : tie.Need-enum-told Inv-loop μ-loop
-enum-told c = search needs
-
 same-length : tie.Need-same-length Inv-loop μ-loop
 same-length c = same-start (c .before .before .before .before)
 
 returns : tie.Need-returns Inv-loop μ-loop
-returns c = search needs
-
-enum-known-more : tie.Need-enum-known-more Inv-loop μ-loop
-enum-known-more c = search needs
-
-same-length-2 : tie.Need-same-length-2 Inv-loop μ-loop
-same-length-2 c = same-start (c .before .before .before .before .before .before)
-
-returns-2 : tie.Need-returns-2 Inv-loop μ-loop
-returns-2 c =
-    let r : tie.After-read-once Inv-loop μ-loop = c .before .before .before .before .before .before in
-    omega (arith, same-space r)
+returns c = omega (arith, same-space (c .before .before .before .before))
 
 add-done : tie.Need-add-done Inv-loop μ-loop
-add-done c =
-    let r : tie.After-read-once Inv-loop μ-loop = c .before .before .before .before .before .before in
-    record { fits = omega (arith, in-part r (c .before .before .more .given .1)) }
+add-done c = record { fits = omega (arith, in-part (c .before .before .before .before .before)) }
 
 loop-less : tie.Need-loop-less Inv-loop μ-loop
 loop-less c = search needs
 
 loop-again : tie.Need-loop-again Inv-loop μ-loop
 loop-again c =
-    let r : tie.After-read-once Inv-loop μ-loop = c .before .before .before .before .before .before in
-    (omega (arith, same-space r, in-part r (c .before .before .more .given .1)), same-start r)
+    let r : tie.After-read-once Inv-loop μ-loop = c .before .before .before .before .before in
+    (omega (arith, same-space r, in-part r), same-start r)
 
-same-length-3 : tie.Need-same-length-3 Inv-loop μ-loop
-same-length-3 c = c .before .loop .inv .1
+same-length-2 : tie.Need-same-length-2 Inv-loop μ-loop
+same-length-2 c = c .before .loop .inv .1
 
-returns-3 : tie.Need-returns-3 Inv-loop μ-loop
-returns-3 c = search needs
+returns-2 : tie.Need-returns-2 Inv-loop μ-loop
+returns-2 c = search needs
 
-pub take-spec : {M : Type 1} → statement M
-take-spec =
+pub read-input-spec : {M : Type 1} → statement M
+read-input-spec =
     tie.close
     (tie.spec
     Inv-loop
@@ -106,14 +88,10 @@ take-spec =
     part-read-once-start
     part-read-once-end
     read-once-requires
-    enum-told
     same-length
     returns
-    enum-known-more
-    same-length-2
-    returns-2
     add-done
     loop-less
     loop-again
-    same-length-3
-    returns-3)
+    same-length-2
+    returns-2)
