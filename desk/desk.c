@@ -50,8 +50,23 @@ static void refused_text(void) {
     must(answered && answer[BENCH_NUMBER] == BENCH_TEXT_WRONG && answer[BENCH_PLACE] == 17, "a leading zero", answer);
 }
 
+/* A setting alone from 16 numbers, as the desk of its hall asks: one call, and its answer and numbers are those of configuring and the plain run in turn. */
+static void one_hall(const uint8_t *image, size_t length, uint64_t setting, int32_t *numbers, size_t *answer) {
+    static uint8_t configured[BENCH_LONGEST_IMAGE];
+    int32_t in_turn[16];
+    size_t plain[BENCH_ANSWER] = {0};
+    memcpy(in_turn, numbers, sizeof in_turn);
+    bool answered = bench_one_hall(image, length, setting, BUDGET, numbers, 16, answer, BENCH_ANSWER);
+    must(answered && answer[BENCH_NUMBER] == 0, "one hall", answer);
+    answered = bench_configure(image, length, setting, configured, sizeof configured, plain, BENCH_ANSWER);
+    must(answered && plain[BENCH_NUMBER] == 0, "configuring", plain);
+    answered = bench_plain_run(configured, plain[BENCH_LENGTH], BUDGET, in_turn, 16, plain, BENCH_ANSWER);
+    must(answered && memcmp(plain, answer, sizeof plain) == 0, "the plain run's answer", plain);
+    must(memcmp(in_turn, numbers, sizeof in_turn) == 0, "the plain run's numbers", plain);
+}
+
 int main(void) {
-    static uint8_t image[BENCH_LONGEST_IMAGE], alone[BENCH_LONGEST_IMAGE];
+    static uint8_t image[BENCH_LONGEST_IMAGE];
     static int32_t store[16 * MOST_SETTINGS], codes[MOST_SETTINGS];
     static uint8_t outcomes[MOST_SETTINGS];
     static uint32_t steps[MOST_SETTINGS];
@@ -75,15 +90,10 @@ int main(void) {
     must(outcomes[2] == BENCH_FAULT && codes[2] == 7, "setting 2 ends in fault 7", answer);
     must(outcomes[3] == BENCH_DONE && store[16 * 3] == 380, "setting 3 is done over hot water", answer);
 
-    /* setting 3 alone: the routine configured for it, and its plain run */
-    answered = bench_configure(image, length, 3, alone, sizeof alone, answer, BENCH_ANSWER);
-    must(answered && answer[BENCH_NUMBER] == 0, "configuring for setting 3", answer);
-    size_t written = answer[BENCH_LENGTH];
     int32_t numbers[16] = {0};
-    answered = bench_plain_run(alone, written, BUDGET, numbers, 16, answer, BENCH_ANSWER);
-    must(answered && answer[BENCH_NUMBER] == 0, "the plain run", answer);
-    printf("setting 3 alone, %zu bytes: %s, code %d, %zu steps\n", written, words[answer[BENCH_OUTCOME]], (int32_t)answer[BENCH_CODE], answer[BENCH_STEPS]);
-    must(answer[BENCH_OUTCOME] == outcomes[3] && answer[BENCH_STEPS] == steps[3], "the plain run ends as the shared run", answer);
+    one_hall(image, length, 3, numbers, answer);
+    printf("setting 3 alone: %s, code %d, %zu steps\n", words[answer[BENCH_OUTCOME]], (int32_t)answer[BENCH_CODE], answer[BENCH_STEPS]);
+    must(answer[BENCH_OUTCOME] == outcomes[3] && answer[BENCH_STEPS] == steps[3], "one hall ends as the shared run", answer);
     must(memcmp(numbers, store + 16 * 3, sizeof numbers) == 0, "the same numbers", answer);
 
     /* what is refused has a number and a place */

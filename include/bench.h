@@ -1,6 +1,6 @@
-/* The guard bench for programs in C: a check of a routine image, the settings of a condition, a routine configured for one setting, a plain run, a run
-   over a set of settings, the report, and a routine's written form read and listed. Link with target/staticlib/libcalls.a (rt staticlib calls). desk/desk.c is an example. crates/calls/src/lib.rt says
-   what each call is proved to do.
+/* The guard bench for programs in C: a check of a routine image, the settings of a condition, a routine configured for one setting, a plain run, the
+   run of one hall, a run over a set of settings, the report, and a routine's written form read and listed. Link with target/staticlib/libcalls.a (rt staticlib
+   calls). desk/desk.c is an example. crates/calls/src/lib.rt says what each call is proved to do.
 
    What is lent to a call is a pointer and the number of elements behind it. No two slices of one call may overlap. Besides that a call asks nothing of its
    caller: every image, text, set, budget and length gets an answer, and no call relies on an earlier one.
@@ -41,7 +41,8 @@ enum {
     BENCH_LENGTH = 2,
     BENCH_TOO_LONG = 3,
 
-    /* of bench_plain_run: an enum bench_outcome, the fault's number as an unsigned number of 32 bits (cast it to int32_t), and the steps */
+    /* of bench_plain_run and bench_one_hall: an enum bench_outcome, the fault's number as an unsigned number of 32 bits (cast it to int32_t), and the
+       steps */
     BENCH_OUTCOME = 2,
     BENCH_CODE = 3,
     BENCH_STEPS = 4,
@@ -68,7 +69,7 @@ enum bench_refusal {
     BENCH_SET_BEYOND = 9,        /* set has a setting at or above N */
     BENCH_BUDGET_OVER = 10,      /* budget over 100,000 */
     BENCH_SETTING_BEYOND = 11,   /* setting at or above N */
-    BENCH_LENT_WRONG = 12,       /* store (16N, in a plain run 16), outcomes, codes or steps (N each) not of exact length */
+    BENCH_LENT_WRONG = 12,       /* store (16N, in a plain run and for one hall 16), outcomes, codes or steps (N each) not of exact length */
     BENCH_CHOICE_HELD = 13,      /* plain run of an image that holds a choice; place: the lowest choice */
     BENCH_SPACE_SHORT = 14,      /* output space shorter than the configured image, the image read or the text listed */
     BENCH_CONDITION_BEYOND = 15, /* condition number not below C */
@@ -92,6 +93,11 @@ bool bench_configure(const uint8_t *image, size_t image_length, uint64_t setting
 /* Runs an image that holds no choice from 16 numbers. Refusals 1 to 8, 13, 10, 12. Values: BENCH_OUTCOME, BENCH_CODE, BENCH_STEPS. */
 bool bench_plain_run(const uint8_t *image, size_t image_length, uint32_t budget, int32_t *numbers, size_t numbers_length, size_t *answer,
                      size_t answer_length);
+
+/* Runs an image in one setting from 16 numbers, and answers as bench_configure with space enough and bench_plain_run of what it wrote do in turn. Refusals
+   1 to 8, 11, 10, 12. Values: BENCH_OUTCOME, BENCH_CODE, BENCH_STEPS. */
+bool bench_one_hall(const uint8_t *image, size_t image_length, uint64_t setting, uint32_t budget, int32_t *numbers, size_t numbers_length, size_t *answer,
+                    size_t answer_length);
 
 /* Runs an image for all settings of a set: setting s from the 16 numbers from 16s in the store, its outcome, code and steps at s. Refusals 1 to 8, 9, 10, 12.
    Values: BENCH_VISITS, BENCH_IN_FAULT, BENCH_ARE_OUT. */

@@ -15,5 +15,5 @@ all() {
     printf '0x%x\n' $(((2 << ((1 << 0x${options:-0}) - 1)) - 1))
 }
 
-# input SET BUDGET DIGITS: what the report reads, the set in 8 bytes and the budget in 4, most significant first, then the image
+# input SET|SETTING BUDGET DIGITS: what the programs report and hall read, 8 bytes and 4 for the budget, most significant first, then the image
 input() { printf '%016x%08x%s' "$1" "$2" "$3" | xxd -r -p; }

@@ -9,10 +9,10 @@
 #include <stdlib.h>
 #include <string.h>
 
-enum { GUARD = 16, MOST_SLICES = 6, FUNCTIONS = 16 };
+enum { GUARD = 16, MOST_SLICES = 6, FUNCTIONS = 17 };
 
 /* How many slices each function takes; the sets' functions write their result in a slice of one number. */
-static const int slices_of[FUNCTIONS] = {2, 2, 3, 3, 6, 1, 1, 1, 1, 1, 1, 1, 1, 3, 3, 3};
+static const int slices_of[FUNCTIONS] = {2, 2, 3, 3, 6, 1, 1, 1, 1, 1, 1, 1, 1, 3, 3, 3, 3};
 
 static void *some(size_t size)
 {
@@ -49,7 +49,8 @@ static bool call(int function, uint64_t x, uint64_t y, void *const *at, const si
     case 12: *result = sets_option(x, y); return true;
     case 13: return bench_report(at[0], size[0], at[1], size[1], at[2], size[2] / 8);
     case 14: return bench_read(at[0], size[0], at[1], size[1], at[2], size[2] / 8);
-    default: return bench_list(at[0], size[0], at[1], size[1], at[2], size[2] / 8);
+    case 15: return bench_list(at[0], size[0], at[1], size[1], at[2], size[2] / 8);
+    default: return bench_one_hall(at[0], size[0], x, y, at[1], size[1] / 4, at[2], size[2] / 8);
     }
 }
 

@@ -1,4 +1,4 @@
-//! Document 01's own examples: the listing of H and "Checked by hand", (a) to (j).
+//! Document 01's own examples: the listing of H and "Checked by hand", (a) to (j); and one hall of them (document 02, C-18).
 
 use crate::answer::{to_answer, to_numbers, ANSWER};
 use crate::call::Call;
@@ -36,6 +36,14 @@ fn shared(image: Image, set: u64, budget: u32) -> Ended {
 fn plain(image: Vec<u8>, budget: u32) -> (Vec<u64>, Vec<i32>) {
     let call = Call::PlainRun { budget };
     let after = asked(call, &image, vec![vec![0; 64]]).expected().slices;
+    (to_answer(&after[2]), to_numbers(&after[1]))
+}
+
+/// One hall with all `count` numbers 0: the answer and the numbers.
+fn one_hall(image: Image, setting: u64, budget: u32, count: usize) -> (Vec<u64>, Vec<i32>) {
+    let call = Call::OneHall { setting, budget };
+    let lent = vec![vec![0; 4 * count]];
+    let after = asked(call, &image.write(), lent).expected().slices;
     (to_answer(&after[2]), to_numbers(&after[1]))
 }
 
@@ -172,6 +180,36 @@ fn plain_runs_of_what_is_configured() {
     assert_eq!(ends(alone(case_h(), 1), 100), [1, 0, 5]);
     assert_eq!(ends(alone(case_h(), 0), 100), [1, 0, 3]);
     assert_eq!(plain(h().write(), 100).0, answer([13, 2, 0, 0, 0]));
+}
+
+#[test]
+fn one_hall_at_once() {
+    let ends = |image, setting, budget| one_hall(image, setting, budget, 16).0[2..5].to_vec();
+    assert_eq!(ends(h(), 0, 100), [1, 0, 4]);
+    assert_eq!(ends(h(), 1, 100), [2, 7, 4]);
+    assert_eq!(ends(h(), 1, 3), [3, 0, 3]);
+    assert_eq!(ends(h(), 0, 0), [3, 0, 0]);
+    assert_eq!(ends(case_g(), 0, 100), [1, 0, 2]);
+    assert_eq!(ends(case_h(), 0, 100), [1, 0, 3]);
+    assert_eq!(ends(case_h(), 1, 100), [1, 0, 5]);
+    let (came, numbers) = one_hall(case_g(), 1, 100, 16);
+    assert_eq!(came, answer([0, 0, 1, 0, 3]));
+    assert_eq!(numbers[1..3], [9, 1]);
+    // the fault is taken, and its handler is not begun
+    let (came, numbers) = one_hall(case_g(), 1, 2, 16);
+    assert_eq!(came, answer([0, 0, 3, 0, 2]));
+    assert_eq!(numbers[1..3], [9, 0]);
+}
+
+/// "Refusals: 1 to 8, 11, 10, 12 in that order"
+#[test]
+fn one_hall_refused() {
+    let refused = |image, setting, budget, count| one_hall(image, setting, budget, count).0;
+    let seven = image(7, vec![], vec![node(16, 0, [0; 3])]);
+    assert_eq!(refused(seven, 128, 100_001, 15), answer([3, 0, 0, 0, 0]));
+    assert_eq!(refused(h(), 2, 100_001, 15), answer([11, 0, 0, 0, 0]));
+    assert_eq!(refused(h(), 1, 100_001, 15), answer([10, 0, 0, 0, 0]));
+    assert_eq!(refused(h(), 1, 100_000, 15), answer([12, 0, 0, 0, 0]));
 }
 
 #[test]

@@ -4,7 +4,7 @@ use crate::answer::{to_bytes, to_numbers, After, ANSWER};
 use crate::paper::check::{check, lowest_choice, refuse_at, refuse_if, Refusal};
 use crate::paper::conditions::{condition_sets, has, set_of, settings};
 use crate::paper::shared::State;
-use crate::paper::{configure, lister, plain, reader, report, shared, tree};
+use crate::paper::{configure, hall, lister, plain, reader, report, shared, tree};
 
 #[derive(Clone, Copy, Debug)]
 pub enum Call {
@@ -12,6 +12,7 @@ pub enum Call {
     ConditionHas { condition: u64, setting: u64 },
     Configure { setting: u64 },
     PlainRun { budget: u32 },
+    OneHall { setting: u64, budget: u32 },
     SharedRun { set: u64, budget: u32 },
     Report,
     Read,
@@ -70,6 +71,7 @@ impl Case {
             Call::ConditionHas { condition, setting } => condition_has(image, condition, setting),
             Call::Configure { setting } => configured(image, setting, &mut after[1]),
             Call::PlainRun { budget } => plain_run(image, budget, &mut after[1]),
+            Call::OneHall { setting, budget } => one_hall(image, setting, budget, &mut after[1]),
             Call::SharedRun { set, budget } => shared_run(image, set, budget, &mut after[1..5]),
             Call::Report => Ok(reported(image, &mut after[1])),
             Call::Read => written(reader::read(image)?, &mut after[1]),
@@ -127,12 +129,30 @@ fn plain_run(image: &[u8], budget: u32, numbers: &mut [u8]) -> Three {
     let mut sixteen = to_numbers(numbers);
     let (ended, steps) = plain::run(&tree::routine(&image), budget, &mut sixteen);
     numbers.copy_from_slice(&to_bytes(&sixteen));
+    Ok(outcome_code_steps(ended, steps))
+}
+
+/// "Refusals: 1 to 8, 11, 10, 12 in that order"
+fn one_hall(image: &[u8], setting: u64, budget: u32, numbers: &mut [u8]) -> Three {
+    let image = check(image)?;
+    refuse_if(setting >= settings(image.header.options), 11)?;
+    refuse_if(budget > 100_000, 10)?;
+    refuse_if(numbers.len() != 4 * 16, 12)?;
+    let mut sixteen = to_numbers(numbers);
+    let routine = tree::routine(&image);
+    let sets = condition_sets(&image);
+    let (ended, steps) = hall::run(&routine, &sets, setting, budget, &mut sixteen);
+    numbers.copy_from_slice(&to_bytes(&sixteen));
+    Ok(outcome_code_steps(ended, steps))
+}
+
+fn outcome_code_steps(ended: plain::Ended, steps: u32) -> [u64; 3] {
     let (outcome, code) = match ended {
         plain::Ended::Done => (1, 0),
         plain::Ended::Fault(n) => (2, n),
         plain::Ended::Out => (3, 0),
     };
-    Ok([outcome, u64::from(code as u32), u64::from(steps)])
+    [outcome, u64::from(code as u32), u64::from(steps)]
 }
 
 /// `lent` is store, outcomes, codes and steps.

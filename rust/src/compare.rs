@@ -4,6 +4,7 @@ use crate::agreement::Agreement;
 use crate::answer::After;
 use crate::call::Case;
 use crate::cases::{every, random::Random, round, written};
+use crate::in_turn::InTurn;
 use crate::server::{guarded, Server};
 use crate::tally::Tally;
 
@@ -27,8 +28,10 @@ pub struct Bench {
     seed: u64,
     rounds: u64,
     pub compared: u64,
-    /// How many shared runs were held against plain runs of what configuring wrote.
+    /// How many shared runs were held against one hall for each setting.
     agreed: u64,
+    /// How many calls of one hall were held against configuring and the plain run in turn.
+    in_turn: u64,
     tally: Tally,
 }
 
@@ -40,6 +43,7 @@ impl Bench {
             rounds: 0,
             compared: 0,
             agreed: 0,
+            in_turn: 0,
             tally: Tally::default(),
         }
     }
@@ -96,29 +100,49 @@ impl Bench {
         self.agree(&agreements)
     }
 
-    /// The shared run and the configuring of each setting first, then what is asked of each result.
     fn agree(&mut self, agreements: &[Agreement]) -> Result<(), Stop> {
-        let first: Vec<Case> = agreements.iter().flat_map(|a| a.cases()).collect();
-        let mut replies = self.ask(&first)?.into_iter();
-        let mut told = Vec::new();
-        for agreement in agreements {
-            let shared_and_configured: Vec<After> =
-                replies.by_ref().take(agreement.calls()).collect();
-            told.push(agreement.told(&shared_and_configured));
-        }
-        let second: Vec<Case> = told.iter().flat_map(|told| told.cases()).collect();
-        let mut replies = self.ask(&second)?.into_iter();
-        for (agreement, told) in agreements.iter().zip(&told) {
-            let second: Vec<After> = replies.by_ref().take(told.calls()).collect();
-            told.agrees(&second)
-                .map_err(|why| self.stop(&agreement.cases()[0], &why))?;
+        let asked: Vec<Vec<Case>> = agreements.iter().map(Agreement::cases).collect();
+        let mut replies = self.ask(&asked.concat())?.into_iter();
+        for (agreement, cases) in agreements.iter().zip(&asked) {
+            let told: Vec<After> = replies.by_ref().take(cases.len()).collect();
+            agreement
+                .agrees(&told)
+                .map_err(|why| self.stop(&cases[0], &why))?;
             self.agreed += 1;
         }
         Ok(())
     }
 
-    /// Compares the replies with what document 01 says, and gives the replies.
+    /// Compares the replies with what the documents say, each answer of one hall with the two calls in turn, and gives the replies.
     fn ask(&mut self, cases: &[Case]) -> Result<Vec<After>, Stop> {
+        let replies = self.compare(cases)?;
+        self.in_turn(cases, &replies)?;
+        Ok(replies)
+    }
+
+    fn in_turn(&mut self, cases: &[Case], replies: &[After]) -> Result<(), Stop> {
+        let answered = cases.iter().zip(replies);
+        let halls: Vec<(&Case, InTurn)> = answered
+            .filter_map(|(case, reply)| Some((case, InTurn::of(case, reply)?)))
+            .collect();
+        let first: Vec<Case> = halls.iter().map(|(_, hall)| hall.configuring()).collect();
+        let configured = self.compare(&first)?;
+        let second: Vec<Vec<Case>> = halls
+            .iter()
+            .zip(&configured)
+            .map(|((_, hall), configured)| hall.then(configured))
+            .collect();
+        let mut replies = self.compare(&second.concat())?.into_iter();
+        for (((case, hall), configured), second) in halls.iter().zip(&configured).zip(&second) {
+            let then: Vec<After> = replies.by_ref().take(second.len()).collect();
+            hall.agrees(configured, &then)
+                .map_err(|why| self.stop(case, &why))?;
+            self.in_turn += 1;
+        }
+        Ok(())
+    }
+
+    fn compare(&mut self, cases: &[Case]) -> Result<Vec<After>, Stop> {
         self.server.send(cases)?;
         let expected: Vec<After> = cases.iter().map(Case::expected).collect();
         let replies = self.server.receive(cases).map_err(|error| {
@@ -169,8 +193,8 @@ impl Bench {
             return Err(Stop("rust: the server ended badly".into()));
         }
         Ok(format!(
-            "{}\nshared runs held against plain runs: {}\nrust: ok, {} cases, seed {}",
-            self.tally, self.agreed, self.compared, self.seed
+            "{}\nshared runs held against one hall: {}\none hall held against the two calls in turn: {}\nrust: ok, {} cases, seed {}",
+            self.tally, self.agreed, self.in_turn, self.compared, self.seed
         ))
     }
 }

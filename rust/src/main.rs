@@ -8,6 +8,7 @@ mod by_hand;
 mod call;
 mod cases;
 mod compare;
+mod in_turn;
 mod paper;
 mod server;
 mod tally;

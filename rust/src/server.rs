@@ -114,5 +114,6 @@ fn request(call: Call) -> (u8, u64, u64) {
         Call::Report => (13, 0, 0),
         Call::Read => (14, 0, 0),
         Call::List => (15, 0, 0),
+        Call::OneHall { setting, budget } => (16, setting, u64::from(budget)),
     }
 }

@@ -15,6 +15,8 @@ pub struct Tally {
     outcomes: [u64; 4],
     /// How many plain runs ended in each outcome (there is no idle one).
     plain: [u64; 4],
+    /// The same of one hall.
+    halls: [u64; 4],
 }
 
 impl Tally {
@@ -32,6 +34,7 @@ impl Tally {
                 }
             }
             Call::PlainRun { .. } if number == 0 => self.plain[first as usize] += 1,
+            Call::OneHall { .. } if number == 0 => self.halls[first as usize] += 1,
             _ => (),
         }
     }
@@ -50,6 +53,8 @@ impl Display for Tally {
             "\nsettings of shared runs: idle {idle}, done {done}, fault {fault}, out {out}"
         )?;
         let [_, done, fault, out] = self.plain;
-        write!(to, "\nplain runs: done {done}, fault {fault}, out {out}")
+        write!(to, "\nplain runs: done {done}, fault {fault}, out {out}")?;
+        let [_, done, fault, out] = self.halls;
+        write!(to, "\none hall: done {done}, fault {fault}, out {out}")
     }
 }

@@ -1,5 +1,5 @@
 -- Condition 1: "Every image, set, budget and buffer length gets an answer; no call relies on an earlier check; a refusal has its number and place and
--- changes nothing." Of each of the eight calls, for every input and whatever keeps the call's promise.
+-- changes nothing." Of each of the nine calls, for every input and whatever keeps the call's promise.
 use mathlib.Core.Path.{_≡_, refl}
 use mathlib.Core.List.{List, [], _∷_, _++_}
 use mathlib.Core.Logic.{_↔_, _⊎_}
@@ -28,7 +28,7 @@ use Rattle.listing.specs.Lists.{list-rows, list-answer, Lists}
 use Rattle.configure.specs.declared.Configured.{Configured}
 use Rattle.configure.specs.Configured.{configure-rows, configure-answer, Configures}
 use Rattle.plain.specs.declared.PlainRun.{PlainRun}
-use Rattle.plain.specs.PlainRun.{plain-rows, plain-answer, Runs}
+use Rattle.plain.specs.PlainRun.{plain-rows, hall-rows, plain-answer, RunsIn, Runs}
 use Rattle.shared.specs.declared.SharedRun.{SharedRun}
 use Rattle.shared.specs.Lent.{Tally}
 use Rattle.shared.specs.SharedRun.{ends-of, shared-rows, shared-answer, SharedRuns}
@@ -37,7 +37,7 @@ use Rattle.lines.specs.declared.answer.Report.the-variants.{Text, Short}
 use Rattle.lines.specs.Report.{Reports}
 use Rattle.lines.specs.Text.{lines, last-line, refusal-line, set-in, budget-in, image-in, run-of, report-rows, text}
 use Rattle.acceptance.specs.Theorem.ByTable.{refusal-is, carried-is, decided, as-lent}
-use Rattle.acceptance.specs.Theorem.Orders.{check-order, condition-order, configure-order, list-order, plain-order, shared-order, report-order}
+use Rattle.acceptance.specs.Theorem.Orders.{check-order, condition-order, configure-order, list-order, plain-order, hall-order, shared-order, report-order}
 use Rattle.acceptance.specs.Theorem.TextTold as Text
 use Rattle.acceptance.specs.Theorem.Told.{refusal-exactly, run-told, fits, does-not-fit}
 
@@ -93,6 +93,8 @@ pub record Condition1 : Type 0 where
       → ByTable (configure-rows l s (length out)) (configure-answer r) out out′
   pub plain-run : (l : Bytes) (budget : ℕ) (ns ns′ : Numbers) (r : PlainRun) → Runs (plain-rows l budget (length ns)) l budget ns ns′ r
       → ByTable (plain-rows l budget (length ns)) (plain-answer r) ns ns′
+  pub one-hall : (l : Bytes) (s budget : ℕ) (ns ns′ : Numbers) (r : PlainRun) → RunsIn s (hall-rows l s budget (length ns)) l budget ns ns′ r
+      → ByTable (hall-rows l s budget (length ns)) (plain-answer r) ns ns′
   pub shared-run : (l : Bytes) (set budget : ℕ) (xs xs′ : List ℤ) (T T′ : Tally) (r : SharedRun)
       → SharedRuns (shared-rows l set budget xs T) l set budget xs T xs′ T′ r
       → ByTable {M = List ℤ × Tally} (shared-rows l set budget xs T) (shared-answer r) (xs, T) (xs′, T′)
@@ -107,6 +109,8 @@ pub record Condition1 : Type 0 where
   pub plain-order : (l : Bytes) (budget space : ℕ) → numbers (plain-rows l budget space) ≡ then (13 ∷ 10 ∷ 12 ∷ [])
   pub configure-order : (l : Bytes) (s space : ℕ) → numbers (configure-rows l s space) ≡ then (11 ∷ 14 ∷ [])
   pub condition-order : (l : Bytes) (k : ℕ) → numbers (condition-rows l k) ≡ then (15 ∷ [])
+  -- one hall: "Refusals: 1 to 8, 11, 10, 12 in that order"
+  pub hall-order : (l : Bytes) (s budget space : ℕ) → numbers (hall-rows l s budget space) ≡ then (11 ∷ 10 ∷ 12 ∷ [])
   -- "The lister: 1 to 8, then 18, .. 14 last"
   pub list-order : (l : Bytes) (space : ℕ) → numbers (list-rows l space) ≡ then (18 ∷ 14 ∷ [])
   -- "The report program tests 16 first, then as the shared run"
@@ -128,6 +132,7 @@ condition-1 = record {
   condition-set = λ l k r judged. by-table {M = Unit {0}} (condition-rows l k) _ tt tt judged refl;
   configure = λ l s out out′ r wrote. by-table (configure-rows l s (length out)) _ _ out (wrote .answered) (wrote .out-is);
   plain-run = λ l budget ns ns′ r ran. by-table (plain-rows l budget (length ns)) _ _ ns (ran .answered) (ran .numbers-are);
+  one-hall = λ l s budget ns ns′ r ran. by-table (hall-rows l s budget (length ns)) _ _ ns (ran .answered) (ran .numbers-are);
   shared-run = λ l set budget xs xs′ T T′ r ran.
       let rows = shared-rows l set budget xs T in
       record {
@@ -157,6 +162,7 @@ condition-1 = record {
   plain-order = plain-order;
   configure-order = configure-order;
   condition-order = condition-order;
+  hall-order = hall-order;
   list-order = list-order;
   report-order = report-order;
 }

@@ -34,7 +34,7 @@ use Rattle.configure.specs.declared.Configured.the-variants.{Length}
 use Rattle.configure.specs.Configured.{configure-rows, Configures}
 use Rattle.plain.specs.declared.progress.Progress.{Progress}
 use Rattle.plain.specs.declared.PlainRun.the-variants as Plain
-use Rattle.plain.specs.PlainRun.{plain-rows, Runs}
+use Rattle.plain.specs.PlainRun.{plain-rows, hall-rows, RunsIn, Runs}
 use Rattle.shared.specs.declared.Ends.{Ends}
 use Rattle.shared.specs.declared.SharedRun.the-variants as Shared
 use Rattle.shared.specs.Lent.{Tally, progress, part}
@@ -43,7 +43,7 @@ use Rattle.acceptance.specs.ByRules.{says, ByImp}
 use Rattle.acceptance.specs.WrittenForm.{ReadsAs, ListsAs}
 use Rattle.acceptance.specs.Theorem.Answer.{in-fault, is-out}
 use Rattle.acceptance.specs.Theorem.Configured.{beyond-kept}
-use Rattle.acceptance.specs.Theorem.PlainRules.{plain-image, by-imp, by-imp-only}
+use Rattle.acceptance.specs.Theorem.PlainRules.{hall-by-imp, hall-by-imp-only, plain-image, by-imp, by-imp-only}
 use Rattle.acceptance.specs.Theorem.ReadBack as Back
 use Rattle.acceptance.specs.Theorem.SharedRules as Rules
 use Rattle.acceptance.specs.Theorem.TextRead as Read
@@ -58,6 +58,12 @@ pub record PlainFollows (l : Bytes) (budget : ℕ) (ns ns′ : Numbers) (p : Pro
   pub follows : (t : Statement ⊥) → embed t ≡ routine l → ByImp budget t ns ns′ p
   -- and the rules say nothing else of it
   pub only : (t : Statement ⊥) → embed t ≡ routine l → (ns″ : Numbers) (q : Progress) → ByImp budget t ns ns″ q → (ns″ ≡ ns′) × (q ≡ p)
+
+-- a run of one hall of the image l, setting s, from the numbers ns answered p and left ns′
+pub record HallFollows (l : Bytes) (s budget : ℕ) (ns ns′ : Numbers) (p : Progress) : Type 0 where
+  -- by the rules of IMP, of the routine configured for the setting; and they say nothing else of it
+  pub follows : ByImp budget (configure s (routine l)) ns ns′ p
+  pub only : (ns″ : Numbers) (q : Progress) → ByImp budget (configure s (routine l)) ns ns″ q → (ns″ ≡ ns′) × (q ≡ p)
 
 -- a shared run of the image l for a set from the store xs answered e and left the store xs′ and the tally T′
 pub record SharedFollows (l : Bytes) (set budget : ℕ) (xs xs′ : List ℤ) (T′ : Tally) (e : Ends) : Type 0 where
@@ -100,6 +106,8 @@ pub record ReadsBack (l : Bytes) (s : ℕ) (out out′ : Bytes) (n : ℕ) : Type
 pub record Condition2 : Type 0 where
   pub plain-run : (l : Bytes) (budget : ℕ) (ns ns′ : Numbers) (p : Progress)
       → Runs (plain-rows l budget (length ns)) l budget ns ns′ (Plain.Ended p) → PlainFollows l budget ns ns′ p
+  pub one-hall : (l : Bytes) (s budget : ℕ) (ns ns′ : Numbers) (p : Progress)
+      → RunsIn s (hall-rows l s budget (length ns)) l budget ns ns′ (Plain.Ended p) → HallFollows l s budget ns ns′ p
   pub shared-run : (l : Bytes) (set budget : ℕ) (xs xs′ : List ℤ) (T T′ : Tally) (e : Ends)
       → SharedRuns (shared-rows l set budget xs T) l set budget xs T xs′ T′ (Shared.Ended e) → SharedFollows l set budget xs xs′ T′ e
   pub reads-back : (l : Bytes) (s : ℕ) (out out′ : Bytes) (n : ℕ)
@@ -116,6 +124,7 @@ pub record Condition2 : Type 0 where
 pub condition-2 : Condition2
 condition-2 = record {
   plain-run = λ l budget ns ns′ p ran. record { plain = (_, plain-image ran); follows = by-imp ran; only = by-imp-only ran };
+  one-hall = λ l s budget ns ns′ p ran. record { follows = hall-by-imp ran; only = hall-by-imp-only ran };
   shared-run = λ l set budget xs xs′ T T′ e ran.
       let w = Rules.some-world ran in
       record {

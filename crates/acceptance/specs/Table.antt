@@ -35,14 +35,14 @@ use Rattle.configure.specs.Theorem.Vectors.{H-1}
 use Rattle.plain.specs.declared.progress.Progress.{Progress}
 use Rattle.plain.specs.declared.PlainRun.{PlainRun}
 use Rattle.plain.specs.PlainRun as Plain
-use Rattle.plain.specs.PlainRun.{progress-of, lent-rows, plain-rows, plain-answer, Runs}
+use Rattle.plain.specs.PlainRun.{progress-of, lent-rows, plain-rows, hall-rows, plain-answer, RunsIn, Runs}
 use Rattle.shared.specs.declared.Ends.{Ends}
 use Rattle.shared.specs.Lent.{Tally, tally, part}
 use Rattle.shared.specs.declared.SharedRun.{SharedRun}
 use Rattle.shared.specs.SharedRun as Shared
 use Rattle.shared.specs.SharedRun.{each, numbers-of, tally-of, set-of, ends-of, exact, set-rows, shared-rows, shared-answer, SharedRuns}
 use Rattle.acceptance.specs.Theorem.Images.{G, L, I, J, E, S}
-use Rattle.acceptance.specs.Theorem.Calls.{Call, shared-run, plain-run, configure, check, condition-set, Result, shared, plain, configuring, checking, asking, bits-of, comes-back, case, Case, Holds, Hold, row-of, shared-kept, plain-kept, configuring-kept, checking-kept, asking-kept}
+use Rattle.acceptance.specs.Theorem.Calls.{Call, shared-run, plain-run, one-hall, configure, check, condition-set, Result, shared, plain, configuring, checking, asking, bits-of, comes-back, case, Case, Holds, Hold, row-of, shared-kept, plain-kept, hall-kept, configuring-kept, checking-kept, asking-kept}
 
 -- ---- what is lent, and what is expected
 
@@ -60,6 +60,9 @@ shared-of n l set budget = shared-run l set budget (zeros n) (nines n)
 
 abbrev plain-of : Bytes → ℕ → Call
 plain-of l budget = plain-run l budget (zeros 1)
+
+abbrev hall-of : Bytes → ℕ → ℕ → Call
+hall-of l s budget = one-hall l s budget (zeros 1)
 
 -- how a setting ends
 pub record End : Type 0 where
@@ -147,6 +150,16 @@ table =
     ∷ case (shared-of 4 S 15 6) (together 8 0 15 (ends-out 6 1 0 0 ∷ ends-out 6 1 1 0 ∷ ends-out 6 2 0 0 ∷ ends-out 6 2 0 0 ∷ []))
     ∷ case (plain-of (configured S 1) 6) (alone (ends-out 6 1 1 0))
     ∷ case (plain-of (configured S 3) 6) (alone (ends-out 6 2 0 0))
+    -- (p), setting by setting: one hall (document 02, C-18)
+    ∷ case (hall-of S 0 100) (alone (ends-done 7 1 0 0))
+    ∷ case (hall-of S 1 100) (alone (ends-done 7 1 1 1))
+    ∷ case (hall-of S 2 100) (alone (ends-done 10 2 8 8))
+    ∷ case (hall-of S 3 100) (alone (end 2 (pos 2) 9 (three 2 2 0)))
+    ∷ case (hall-of S 3 6) (alone (ends-out 6 2 0 0))
+    -- everything wrong at once: 11 before 10 before 12, and the numbers are as they were
+    ∷ case (one-hall S 4 100001 []) (plain (refused 11 0) [])
+    ∷ case (one-hall S 3 100001 []) (plain (refused 10 0) [])
+    ∷ case (one-hall S 3 100000 []) (plain (refused 12 0) [])
     -- (q): the sets of (o)'s conditions, setting s with weight 2^s, and a condition that is not there
     ∷ case (condition-set E 0) (asking (answer 10))
     ∷ case (condition-set E 1) (asking (answer 12))
@@ -165,7 +178,7 @@ unfolding digit bit on-in holds Imp.configure configureᵃ low32 signed32 wrap o
     number-at nodes-from header condition-record node kinds layout names-node is-choice condition-kinds condition-layout field-fits
     judge written short edition-wrong counts-wrong length-wrong lowest lowest-from condition-fits slot-fits node-fits class slot-classed classed slot-names node-names names named-wrong check-rows
     settings condition-kind condition-reading condition-below condition kind-of reading read-below read routine size name node-word words bytes-of all-bytes head-word term-image termᵃ termˢ plain-image
-    configured space-rows configure-rows over Plain.meant progress-of lent-rows plain-rows part Shared.meant each numbers-of tally-of set-of ends-of exact set-rows shared-rows
+    configured space-rows configure-rows over Plain.meant-in progress-of lent-rows plain-rows hall-rows part Shared.meant each numbers-of tally-of set-of ends-of exact set-rows shared-rows
     shape-of in-condition condition-rows G L I J E S comes-back table
 opened = tt
 
@@ -194,6 +207,13 @@ module _ (k : ℕ) where
       → Runs (plain-rows l budget (length ns)) l budget ns ns′ r → (plain-answer r ≡ a) × (ns′ ≡ ms)
   plain-row {ns′ = ns′} {ms = ms} {r = r} {a = a} at ran =
       let same : plain (plain-answer r) ns′ ≡ plain a ms = plain-kept ran ∙ row k _ at in
+      (cc, cc)
+
+  pub hall-row : {l : Bytes} {s budget : ℕ} {ns ns′ ms : Numbers} {r : PlainRun} {a : Answer Progress}
+      → getElem? table k ≡ some (case (one-hall l s budget ns) (plain a ms))
+      → RunsIn s (hall-rows l s budget (length ns)) l budget ns ns′ r → (plain-answer r ≡ a) × (ns′ ≡ ms)
+  hall-row {ns′ = ns′} {ms = ms} {r = r} {a = a} at ran =
+      let same : plain (plain-answer r) ns′ ≡ plain a ms = hall-kept ran ∙ row k _ at in
       (cc, cc)
 
   pub configuring-row : {l : Bytes} {s : ℕ} {out out′ m : Bytes} {r : Configured} {a : Answer ℕ}

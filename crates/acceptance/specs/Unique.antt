@@ -30,7 +30,7 @@ use Rattle.listing.specs.Lists.{list-rows, Lists}
 use Rattle.configure.specs.declared.Configured.{Configured}
 use Rattle.configure.specs.Configured.{configure-rows, Configures}
 use Rattle.plain.specs.declared.PlainRun.{PlainRun}
-use Rattle.plain.specs.PlainRun.{plain-rows, Runs}
+use Rattle.plain.specs.PlainRun.{plain-rows, hall-rows, RunsIn, Runs}
 use Rattle.shared.specs.declared.SharedRun.{SharedRun}
 use Rattle.shared.specs.Lent.{Tally}
 use Rattle.shared.specs.SharedRun.{shared-rows, SharedRuns}
@@ -58,6 +58,9 @@ pub record Unique : Type 0 where
       → (r ≡ r′) × (out′ ≡ out″)
   pub plain-run : (l : Bytes) (budget : ℕ) (ns ns′ ns″ : Numbers) (r r′ : PlainRun)
       → Runs (plain-rows l budget (length ns)) l budget ns ns′ r → Runs (plain-rows l budget (length ns)) l budget ns ns″ r′
+      → (r ≡ r′) × (ns′ ≡ ns″)
+  pub one-hall : (l : Bytes) (s budget : ℕ) (ns ns′ ns″ : Numbers) (r r′ : PlainRun)
+      → RunsIn s (hall-rows l s budget (length ns)) l budget ns ns′ r → RunsIn s (hall-rows l s budget (length ns)) l budget ns ns″ r′
       → (r ≡ r′) × (ns′ ≡ ns″)
   pub shared-run : (l : Bytes) (set budget : ℕ) (xs xs′ xs″ : List ℤ) (T T′ T″ : Tally) (r r′ : SharedRun)
       → SharedRuns (shared-rows l set budget xs T) l set budget xs T xs′ T′ r
@@ -100,6 +103,7 @@ unique = record {
   condition-sets = λ l n table table′ h h′ e e′. one-table h h′ e e′;
   configure = λ l s out out′ out″ r r′ w w′. (one-configure r r′ (w .answered) (w′ .answered), w .out-is ∙ sym (w′ .out-is));
   plain-run = λ l budget ns ns′ ns″ r r′ w w′. (one-plain r r′ (w .answered) (w′ .answered), w .numbers-are ∙ sym (w′ .numbers-are));
+  one-hall = λ l s budget ns ns′ ns″ r r′ w w′. (one-plain r r′ (w .answered) (w′ .answered), w .numbers-are ∙ sym (w′ .numbers-are));
   shared-run = λ l set budget xs xs′ xs″ T T′ T″ r r′ w w′.
       (one-shared r r′ (w .answered) (w′ .answered), w .store-is ∙ sym (w′ .store-is), w .tally-is ∙ sym (w′ .tally-is));
   report = λ input out out′ out″ r r′ w w′. (w .answered ∙ sym (w′ .answered), w .out-is ∙ sym (w′ .out-is));

@@ -1,4 +1,4 @@
-// Condition 3 by calls: each routine on standard input is run over its set and, setting by setting, configured and run by itself.
+// Condition 3 by calls: each routine on standard input is run over its set and, setting by setting, by itself.
 ghost use Prim.Native.Nat.{_<_};
 ghost use lib.ListN.{length};
 

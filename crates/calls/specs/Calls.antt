@@ -11,7 +11,7 @@ use Rattle.image.specs.Check.{shape-of}
 use Rattle.image.specs.Sets.{in-condition, condition-rows}
 use Rattle.listing.specs.Lists.{listing-of, list-rows}
 use Rattle.configure.specs.Configured.{configured, configure-rows}
-use Rattle.plain.specs.PlainRun.{meant, progress-of, plain-rows}
+use Rattle.plain.specs.PlainRun.{meant-in, meant, progress-of, plain-rows, hall-rows}
 use Rattle.calls.specs.declared.reply.Reply.{Reply}
 use Rattle.calls.specs.Reply.{values, reply, shape-reply, member-reply, length-reply, progress-reply}
 
@@ -32,6 +32,13 @@ plain-reply l budget xs = reply progress-reply (judge (plain-rows l budget (leng
 
 abbrev pub plain-left : Bytes → ℕ → List ℤ → List ℤ
 plain-left l budget xs = written (plain-rows l budget (length xs)) (meant l budget xs .numbers) xs
+
+abbrev pub hall-reply : Bytes → ℕ → ℕ → List ℤ → Reply
+hall-reply l setting budget xs =
+    reply progress-reply (judge (hall-rows l setting budget (length xs)) (progress-of (meant-in setting l budget xs)))
+
+abbrev pub hall-left : Bytes → ℕ → ℕ → List ℤ → List ℤ
+hall-left l setting budget xs = written (hall-rows l setting budget (length xs)) (meant-in setting l budget xs .numbers) xs
 
 abbrev pub list-reply : Bytes → Bytes → Reply
 list-reply l out = reply length-reply (judge (list-rows l (length out)) (length (listing-of l)))

@@ -2,7 +2,7 @@
 ghost use mathlib.Core.Path.{_≡_};
 ghost use Rattle.shared.specs.Lent.{tally};
 ghost use Rattle.lines.specs.Text.{text};
-ghost use Rattle.calls.specs.Calls.{check-reply, condition-reply, configure-reply, configure-left, plain-reply, plain-left, list-reply, list-left, text-reply, text-left};
+ghost use Rattle.calls.specs.Calls.{check-reply, condition-reply, configure-reply, configure-left, plain-reply, plain-left, hall-reply, hall-left, list-reply, list-left, text-reply, text-left};
 ghost use Rattle.calls.specs.Read.{ReadSo};
 ghost use Rattle.calls.specs.Shared.{EndedAll};
 use crate::reply::Reply;
@@ -21,6 +21,7 @@ use lines::report;
 use listing::Listed;
 use listing::list;
 use plain::PlainRun;
+use plain::one_hall;
 use plain::plain_run;
 use reading::ReadText;
 use reading::read;
@@ -64,6 +65,16 @@ pub fn ended(image: &[u8], budget: u32, numbers: &mut [i32]) -> Reply
     ensures { λ _. ⌜ now (numbers .exit) ≡ plain-left (now (image .entry)) budget (now (numbers .entry)) ⌝ }
 {
     match plain_run(image, budget, numbers) {
+        PlainRun::Refused(r) => refused(r),
+        PlainRun::Ended(p) => progress(p),
+    }
+}
+
+pub fn ended_in(image: &[u8], setting: u64, budget: u32, numbers: &mut [i32]) -> Reply
+    ensures { λ y. ⌜ y ≡ hall-reply (now (image .entry)) setting budget (now (numbers .entry)) ⌝ }
+    ensures { λ _. ⌜ now (numbers .exit) ≡ hall-left (now (image .entry)) setting budget (now (numbers .entry)) ⌝ }
+{
+    match one_hall(image, setting, budget, numbers) {
         PlainRun::Refused(r) => refused(r),
         PlainRun::Ended(p) => progress(p),
     }

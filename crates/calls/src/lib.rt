@@ -2,7 +2,7 @@
 ghost use mathlib.Core.Path.{_≡_};
 ghost use Rattle.shared.specs.Lent.{tally};
 ghost use Rattle.lines.specs.Text.{text};
-ghost use Rattle.calls.specs.Calls.{check-reply, condition-reply, configure-reply, configure-left, plain-reply, plain-left, list-reply, list-left, text-reply, text-left};
+ghost use Rattle.calls.specs.Calls.{check-reply, condition-reply, configure-reply, configure-left, plain-reply, plain-left, hall-reply, hall-left, list-reply, list-left, text-reply, text-left};
 ghost use Rattle.calls.specs.Space.{where-right, Answers};
 ghost use Rattle.calls.specs.Read.{AnsweredRead};
 ghost use Rattle.calls.specs.Shared.{AnsweredAll};
@@ -13,6 +13,7 @@ mod reply; // reply.rt: an answer as eight numbers
 use asked::checked;
 use asked::ended;
 use asked::ended_all;
+use asked::ended_in;
 use asked::listed;
 use asked::member;
 use asked::read_so;
@@ -91,6 +92,27 @@ pub extern "C" fn bench_plain_run(
         return false;
     }
     let r = ended(image, budget, numbers);
+    fill(r, answer);
+    true
+}
+
+#[no_mangle]
+pub extern "C" fn bench_one_hall(
+    image: &[u8],
+    setting: u64,
+    budget: u32,
+    numbers: &mut [i32],
+    answer: &mut [usize],
+) -> bool
+    ensures { λ y. ⌜ Answers (now (answer .entry)) (now (answer .exit))
+        (hall-reply (now (image .entry)) setting budget (now (numbers .entry))) y ⌝ }
+    ensures { λ _. ⌜ now (numbers .exit) ≡ where-right (now (answer .entry))
+        (hall-left (now (image .entry)) setting budget (now (numbers .entry))) (now (numbers .entry)) ⌝ }
+{
+    if answer.len() != ANSWER_LENGTH {
+        return false;
+    }
+    let r = ended_in(image, setting, budget, numbers);
     fill(r, answer);
     true
 }

@@ -1,7 +1,6 @@
 -- What configuring answers and what it leaves in `out` (document 01, "Configuring", and rows 11 and 14 of the table).
 use mathlib.Core.Path.{_≡_}
 use Prim.Native.Nat.{ℕ}
-use mathlib.Core.Bool.{not}
 use mathlib.Core.List.{List, [], _∷_, _++_}
 use lib.Dec.{ltb}
 use lib.ListN.{length}
@@ -9,7 +8,7 @@ use Rattle.imp.specs.Configure.{configure}
 use Rattle.image.specs.Bytes.{Bytes, over}
 use Rattle.image.specs.Refusals.{number-of, place-of}
 use Rattle.image.specs.Rows.{Row, row, Answer, refused, answer, judge, written, check-rows}
-use Rattle.image.specs.Sets.{settings}
+use Rattle.image.specs.Sets.{setting-row}
 use Rattle.image.specs.Tree.{routine}
 use Rattle.image.specs.Encode.{plain-image}
 use Rattle.configure.specs.declared.Configured.{Configured}
@@ -23,9 +22,9 @@ configured l s = plain-image (configure s (routine l))
 unfoldable pub space-rows : Bytes → ℕ → ℕ → List Row
 space-rows l s space = row 14 (ltb space (length (configured l s))) ∷ []
 
--- "configuring 11, 14"; 11: "setting at or above N"
+-- "configuring 11, 14"
 unfoldable pub configure-rows : Bytes → ℕ → ℕ → List Row
-configure-rows l s space = check-rows l ++ (row 11 (not (ltb s (settings l))) ∷ space-rows l s space)
+configure-rows l s space = check-rows l ++ (setting-row l s ∷ space-rows l s space)
 
 -- "Configuring answers the length written."
 abbrev pub configure-answer : Configured → Answer ℕ

@@ -1,5 +1,5 @@
 -- "A condition denotes the set in which it is true": of the settings below N, those in which it holds.
-use Prim.Native.Nat.{ℕ, _+_, _^_}
+use Prim.Native.Nat.{ℕ, _^_}
 use mathlib.Core.Bool.{Bool, not, _&&_}
 use mathlib.Core.List.{List, [], _∷_, _++_}
 use lib.Dec.{ltb}
@@ -16,6 +16,10 @@ use Rattle.image.specs.Tree.{condition}
 -- "N = 2^F settings"
 unfoldable pub settings : Bytes → ℕ
 settings l = 2 ^ header l .options
+
+-- 11: "setting at or above N"
+abbrev pub setting-row : Bytes → ℕ → Row
+setting-row l s = row 11 (not (ltb s (settings l)))
 
 -- setting s is in the set of condition k
 unfoldable pub in-condition : Bytes → ℕ → ℕ → Bool

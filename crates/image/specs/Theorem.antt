@@ -1,6 +1,7 @@
 -- What is proved of the definitions, each under the name of what it answers.
 pub mod Given
 pub mod Then
+pub mod Carried
 pub mod Lowest
 pub mod Headers
 pub mod Accepted

@@ -11,6 +11,7 @@ use Rattle.image.specs.Rows.{refused, judge, check-rows}
 use Rattle.image.specs.Check.{shape-of}
 use Rattle.image.specs.Sets.{settings}
 use Rattle.image.specs.Theorem.Then.{judge-stops}
+use Rattle.image.specs.Theorem.Carried.{carried, written-new, carried-again, refused-again}
 use Rattle.shared.specs.declared.Ends.{Ends}
 use Rattle.shared.specs.declared.SharedRun.{SharedRun}
 use Rattle.shared.specs.declared.SharedRun.the-variants.{Ended, Refused}
@@ -19,7 +20,6 @@ use Rattle.shared.specs.SharedRun.{ends-of, tally-of, shared-rows, SharedRuns}
 use Rattle.lines.specs.Inner.Telling.{tallied, Blank}
 use Rattle.lines.specs.Text.{last-line, refusal-line, zeros, blank, run-of, run-rows, told, run-text}
 use Rattle.lines.proofs.Tallies.{tallied-are}
-use Rattle.lines.proofs.Tables.{answered-is, judge-passes, written-passes, judge-refuses}
 
 module _ (l : Bytes) (set budget : ℕ) where
   abbrev N : ℕ
@@ -38,7 +38,7 @@ module _ (l : Bytes) (set budget : ℕ) where
       → SharedRuns (shared-rows l set budget xs T) l set budget xs T xs′ T′ (Refused r)
       → refusal-line (number-of r) (place-of r) ≡ run-text l set budget
   unfolding told run-of
-  tell-refused b h = sym (ap (told N) (judge-refuses (run-rows l set budget) (ends-of N Σ) Σ (from-blank b h .answered)))
+  tell-refused b h = sym (ap (told N) (refused-again (run-rows l set budget) (ends-of N Σ) Σ (from-blank b h .answered)))
 
   pub tell-ended : {room : ℕ} {xs xs′ : List ℤ} {T T′ : Tally} {e : Ends} → Blank N xs T room
       → SharedRuns (shared-rows l set budget xs T) l set budget xs T xs′ T′ (Ended e)
@@ -46,12 +46,13 @@ module _ (l : Bytes) (set budget : ℕ) where
   unfolding told run-of
   tell-ended b h =
       let p : SharedRuns (run-rows l set budget) l set budget (zeros N) (blank N) _ _ _ = from-blank b h in
+      let done = carried (run-rows l set budget) (ends-of N Σ) _ (p .answered) in
       sym (
-      ap (told N) (judge-passes (run-rows l set budget) (ends-of N Σ) Σ (p .answered))
+      ap (told N) (carried-again (run-rows l set budget) (ends-of N Σ) Σ (p .answered))
       ∙ ap (λ t. t ++ last-line (ends-of N Σ)) (sym (tallied-are N Σ))
       ∙ ap₂ (λ T e. tallied N T ++ last-line e)
-      (sym (p .tally-is ∙ written-passes (run-rows l set budget) (ends-of N Σ) (tally-of N Σ) (blank N) (p .answered)))
-      (sym (answered-is (run-rows l set budget) (ends-of N Σ) (p .answered)))
+      (sym (p .tally-is ∙ written-new (run-rows l set budget) (tally-of N Σ) (blank N) (done .0)))
+      (sym (done .1))
       )
 
   -- the check refuses

@@ -64,9 +64,13 @@ run-of l set budget = meant l set budget (zeros (settings l))
 unfoldable pub run-rows : Bytes → ℕ → ℕ → List Row
 run-rows l set budget = shared-rows l set budget (zeros (settings l)) (blank (settings l))
 
--- "The report program tests 16 first, then as the shared run"; 16: "report input under 12 bytes"
+-- 16: "report input under 12 bytes"
+abbrev pub input-row : Bytes → Row
+input-row input = row 16 (ltb (length input) 12)
+
+-- "The report program tests 16 first, then as the shared run"
 unfoldable pub report-rows : Bytes → List Row
-report-rows input = row 16 (ltb (length input) 12) ∷ run-rows (image-in input) (set-in input) (budget-in input)
+report-rows input = input-row input ∷ run-rows (image-in input) (set-in input) (budget-in input)
 
 -- what is said of a run over N settings, or of a refusal
 unfoldable pub told : ℕ → Answer Shared → Bytes

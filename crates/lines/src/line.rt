@@ -47,7 +47,7 @@ fn put_word(out: &mut [u8], at: usize, outcome: u8) -> usize
 }
 
 // The line of setting s.
-fn put_line(out: &mut [u8], at: usize, s: usize, p: Progress) -> usize
+pub fn put_line(out: &mut [u8], at: usize, s: usize, p: Progress) -> usize
     requires { ⌜ (s < 64) × (at + 32 ≤ length (now out)) ⌝ }
     ensures { λ r. ⌜ Puts (line s p) at (now (out .entry)) (now (out .exit)) r ⌝ }
 {

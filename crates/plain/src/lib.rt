@@ -1,9 +1,11 @@
-// The run of one setting: the value of an expression, and the plain run. What the shared run does in each of its settings is lent to it (`pub use`).
+// The run of one setting: the value of an expression, the plain run, and the run of one hall. What the shared run does in each of its settings is lent to it (`pub use`).
 ghost use mathlib.Core.Path.{_≡_};
+ghost use Prim.Native.Nat.{_<_};
 ghost use lib.ListN.{length};
 ghost use Rattle.image.specs.Check.{shape-of};
+ghost use Rattle.image.specs.Sets.{settings};
 ghost use Rattle.image.specs.Accepted.{Accepted};
-ghost use Rattle.plain.specs.PlainRun.{lent-rows, plain-rows, Runs};
+ghost use Rattle.plain.specs.PlainRun.{lent-rows, plain-rows, hall-rows, RunsIn, Runs};
 
 mod choices; // choices.rt: the lowest choice of an image
 mod evaluate; // evaluate.rt: the value of an expression
@@ -16,6 +18,7 @@ pub use evaluate::boolean;
 use image::accept::Checked;
 use image::accept::Shape;
 use image::accept::check;
+use image::conditions::all_settings;
 use image::conditions::condition_sets;
 use image::refusals::Refusal;
 use progress::LARGEST_BUDGET;
@@ -33,10 +36,10 @@ pub enum PlainRun {
     Refused(Refusal),
 }
 
-// Tests 10 and 12, and the run: in an image with no choice every setting is the same.
-fn run_accepted(image: &[u8], shape: Shape, budget: u32, numbers: &mut [i32]) -> PlainRun
-    requires { ⌜ Accepted (now image) × (shape ≡ shape-of (now image)) ⌝ }
-    ensures { λ r. ⌜ Runs (lent-rows budget (length (now (numbers .entry)))) (now (image .entry)) budget (now (numbers .entry))
+// Tests 10 and 12, and the run in setting s.
+fn run_accepted(image: &[u8], shape: Shape, s: u64, budget: u32, numbers: &mut [i32]) -> PlainRun
+    requires { ⌜ Accepted (now image) × (shape ≡ shape-of (now image)) × (s < settings (now image)) ⌝ }
+    ensures { λ r. ⌜ RunsIn s (lent-rows budget (length (now (numbers .entry)))) (now (image .entry)) budget (now (numbers .entry))
         (now (numbers .exit)) r ⌝ }
 {
     if LARGEST_BUDGET < budget {
@@ -55,7 +58,7 @@ fn run_accepted(image: &[u8], shape: Shape, budget: u32, numbers: &mut [i32]) ->
         image,
         shape.conditions,
         &sets,
-        0,
+        s,
         shape.nodes - 1,
         budget,
         fresh,
@@ -75,7 +78,23 @@ pub fn plain_run(image: &[u8], budget: u32, numbers: &mut [i32]) -> PlainRun
             if choice < shape.nodes {
                 return PlainRun::Refused(Refusal::ChoiceHeld(choice));
             }
-            run_accepted(image, shape, budget, numbers)
+            run_accepted(image, shape, 0, budget, numbers)
+        }
+    }
+}
+
+// "Join configuring and the plain run into one call that takes image, setting, budget and 16 numbers": refusals 1 to 8, 11, 10, 12.
+pub fn one_hall(image: &[u8], setting: u64, budget: u32, numbers: &mut [i32]) -> PlainRun
+    ensures { λ r. ⌜ RunsIn setting (hall-rows (now (image .entry)) setting budget (length (now (numbers .entry)))) (now (image .entry)) budget
+        (now (numbers .entry)) (now (numbers .exit)) r ⌝ }
+{
+    match check(image) {
+        Checked::Refused(r) => PlainRun::Refused(r),
+        Checked::Good(shape) => {
+            if !all_settings(shape.options).has(setting) {
+                return PlainRun::Refused(Refusal::SettingBeyond);
+            }
+            run_accepted(image, shape, setting, budget, numbers)
         }
     }
 }

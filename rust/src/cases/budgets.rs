@@ -21,6 +21,10 @@ fn plain(image: &[u8], budget: u32, numbers: Vec<u8>) -> Case {
     asked(Call::PlainRun { budget }, image, vec![numbers])
 }
 
+fn hall(image: &[u8], setting: u64, budget: u32, numbers: Vec<u8>) -> Case {
+    asked(Call::OneHall { setting, budget }, image, vec![numbers])
+}
+
 fn shared(image: &[u8], set: u64, budget: u32, store: Vec<u8>) -> Case {
     let n = store.len() / 64;
     let lent = vec![store, vec![0xa5; n], vec![0xa5; 4 * n], vec![0xa5; 4 * n]];
@@ -43,6 +47,21 @@ pub fn plain_runs() -> impl Iterator<Item = Case> {
     })
 }
 
+/// One hall in each setting of four routines, and in the one behind the last.
+pub fn halls() -> impl Iterator<Item = Case> {
+    let routines = [all_kinds(), case_g(), case_h(), h()];
+    let budgets =
+        (0..=MOST).flat_map(|budget| (-20..=20).step_by(5).map(move |first| (budget, first)));
+    budgets.flat_map(move |(budget, first)| {
+        let mut cases = Vec::new();
+        for routine in &routines {
+            let (image, n) = (routine.write(), settings(routine.header.options));
+            cases.extend((0..=n).map(|s| hall(&image, s, budget, start(first, 1))));
+        }
+        cases
+    })
+}
+
 /// Shared runs over every set of four routines.
 pub fn shared_runs() -> impl Iterator<Item = Case> {
     let routines = [all_kinds(), case_g(), case_h(), h()];
@@ -61,7 +80,7 @@ pub fn shared_runs() -> impl Iterator<Item = Case> {
     })
 }
 
-/// Shared runs to hold against plain runs: every set of the same routines, and many of 64 settings.
+/// Shared runs to hold against one hall: every set of the same routines, and many of 64 settings.
 pub fn agreements() -> impl Iterator<Item = Agreement> {
     let routines = [all_kinds(), case_g(), case_h(), h()];
     let few = (0..=MOST).flat_map(move |budget| {
@@ -83,7 +102,7 @@ pub fn agreements() -> impl Iterator<Item = Agreement> {
     few.chain(many)
 }
 
-/// The largest budget and the ones beyond it, for both runs of routines that end early, late and never.
+/// The largest budget and the ones beyond it, for all runs of routines that end early, late and never.
 pub fn great_budgets() -> Vec<Case> {
     let mut cases = Vec::new();
     let routines = [
@@ -99,6 +118,7 @@ pub fn great_budgets() -> Vec<Case> {
         let (bytes, configured) = (routine.write(), alone(&routine, 0));
         for budget in [100_000, 100_001, u32::MAX] {
             cases.push(plain(&configured, budget, start(0, 1)));
+            cases.extend((0..=n).map(|s| hall(&bytes, s, budget, start(0, 1))));
             cases.push(shared(&bytes, (1 << n) - 1, budget, start(0, n as usize)));
         }
     }

@@ -1,7 +1,7 @@
 //! Everything that is asked of one image, and images changed bit by bit: each bit by itself, pairs of bits, and every length.
 
 use super::random::Random;
-use crate::answer::ANSWER;
+use crate::answer::{to_bytes, ANSWER};
 use crate::call::{Call, Case};
 use crate::paper::check::check;
 use crate::paper::conditions::{condition_sets, settings};
@@ -24,11 +24,22 @@ fn configuring(image: &[u8], setting: u64, space: usize) -> Case {
     asked(Call::Configure { setting }, image, vec![vec![0xee; space]])
 }
 
-/// The check; for every setting, and some beyond, configuring into just the space, a byte less, more, and none; and what is written, checked and configured again.
+fn one_hall(image: &[u8], setting: u64) -> Case {
+    let numbers: Vec<i32> = (-7..9).collect();
+    let call = Call::OneHall {
+        setting,
+        budget: 60,
+    };
+    asked(call, image, vec![to_bytes(&numbers)])
+}
+
+/// The check; for every setting, and some beyond, one hall, and configuring into just the space, a byte less, more, and none; and what is written, checked and
+/// configured again.
 pub fn configured(image: &[u8]) -> Vec<Case> {
     let mut cases = vec![asked(Call::Check, image, vec![])];
     let Ok(checked) = check(image) else {
         cases.push(configuring(image, 0, image.len()));
+        cases.push(one_hall(image, 0));
         return cases;
     };
     let sets = condition_sets(&checked);
@@ -41,10 +52,12 @@ pub fn configured(image: &[u8]) -> Vec<Case> {
         }
         cases.push(asked(Call::Check, &written, vec![]));
         cases.push(configuring(&written, 0, space));
+        cases.push(one_hall(image, setting));
     }
     for beyond in [n, n + 1, 1 << 32, u64::MAX] {
         cases.push(configuring(image, beyond, image.len()));
         cases.push(configuring(image, beyond, 0));
+        cases.push(one_hall(image, beyond));
     }
     cases
 }

@@ -21,8 +21,10 @@ pub fn cases(seed: u64) -> impl Iterator<Item = Case> {
         .chain(tallest())
         .chain(spaces::shared_runs())
         .chain(spaces::plain_runs())
+        .chain(spaces::halls())
         .chain(spaces::answers())
         .chain(budgets::plain_runs())
+        .chain(budgets::halls())
         .chain(budgets::shared_runs())
         .chain(budgets::great_budgets())
 }

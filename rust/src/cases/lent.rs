@@ -145,6 +145,14 @@ pub fn plain_running(random: &mut Random, subject: &Subject) -> Case {
     near_the_end(random, case)
 }
 
+pub fn running_one_hall(random: &mut Random, subject: &Subject) -> Case {
+    let setting = any_setting(random, subject);
+    let budget = any_budget(random, subject);
+    let call = Call::OneHall { setting, budget };
+    let case = case(random, subject, call, |random| vec![numbers(random, 16)]);
+    near_the_end(random, case)
+}
+
 pub fn shared_running(random: &mut Random, subject: &Subject) -> Case {
     let set = any_set(random, subject);
     let budget = any_budget(random, subject);
@@ -191,7 +199,7 @@ pub fn near_the_end(random: &mut Random, mut case: Case) -> Case {
         return case;
     }
     let after = case.expected().slices;
-    let Some([_, _, plain_steps]) = values(&after[after.len() - 1]) else {
+    let Some([_, _, alone_steps]) = values(&after[after.len() - 1]) else {
         return case;
     };
     let near = |random: &mut Random, steps: u32| {
@@ -199,7 +207,9 @@ pub fn near_the_end(random: &mut Random, mut case: Case) -> Case {
         near.min(100_000)
     };
     match &mut case.call {
-        Call::PlainRun { budget } => *budget = near(random, plain_steps as u32),
+        Call::PlainRun { budget } | Call::OneHall { budget, .. } => {
+            *budget = near(random, alone_steps as u32)
+        }
         Call::SharedRun { budget, .. } => {
             let steps = random.one_of(&to_numbers(&after[4]));
             *budget = near(random, steps as u32);

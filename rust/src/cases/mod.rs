@@ -24,7 +24,7 @@ use random::Random;
 
 pub struct Round {
     pub cases: Vec<Case>,
-    /// An accepted image for which the shared run shall be compared with plain runs.
+    /// An accepted image for which the shared run shall be compared with one hall.
     pub subject: Option<Subject>,
 }
 
@@ -62,7 +62,7 @@ pub fn round(random: &mut Random) -> Round {
 }
 
 fn call(random: &mut Random, subject: &Subject) -> Case {
-    match random.below(10) {
+    match random.below(12) {
         0 => lent::asking_condition(random, subject),
         1 => {
             let setting = lent::any_setting(random, subject);
@@ -71,6 +71,7 @@ fn call(random: &mut Random, subject: &Subject) -> Case {
         }
         2 | 3 => lent::plain_running(random, subject),
         4 => lent::reporting(random, subject),
+        5 | 6 => lent::running_one_hall(random, subject),
         _ => lent::shared_running(random, subject),
     }
 }

@@ -8,6 +8,9 @@ use crate::call::{Call, Case};
 
 const BUDGETS: [u32; 4] = [100, 100_000, 100_001, u32::MAX];
 
+/// How many numbers are lent to a run of one setting.
+const COUNTS: [usize; 6] = [0, 1, 15, 16, 17, 32];
+
 fn filled(length: usize) -> Vec<u8> {
     (0..length).map(|k| (37 * k + 5) as u8).collect()
 }
@@ -59,16 +62,38 @@ pub fn shared_runs() -> Vec<Case> {
     cases
 }
 
-/// The same of plain runs, of images that hold a choice and of ones that hold none.
-pub fn plain_runs() -> Vec<Case> {
+/// Those images, and ones that hold no choice.
+fn with_plain() -> Vec<Vec<u8>> {
     let mut images: Vec<_> = images().into_iter().map(|(image, _)| image).collect();
     images.extend([0, 1].map(|setting| alone(&h(), setting)));
+    images
+}
+
+/// A run of one setting with each count of numbers.
+fn counts(call: Call, image: &[u8]) -> impl Iterator<Item = Case> + '_ {
+    COUNTS
+        .into_iter()
+        .map(move |count| asked(call, image, vec![filled(4 * count)]))
+}
+
+/// The same of plain runs.
+pub fn plain_runs() -> Vec<Case> {
     let mut cases = Vec::new();
-    for image in images {
+    for image in with_plain() {
         for budget in BUDGETS {
-            for count in [0, 1, 15, 16, 17, 32] {
-                let lent = vec![filled(4 * count)];
-                cases.push(asked(Call::PlainRun { budget }, &image, lent));
+            cases.extend(counts(Call::PlainRun { budget }, &image));
+        }
+    }
+    cases
+}
+
+/// One hall in settings inside and beyond, so that each two of 11, 10 and 12 meet.
+pub fn halls() -> Vec<Case> {
+    let mut cases = Vec::new();
+    for image in with_plain() {
+        for setting in [0, 1, 2, 63, 64, 1 << 32, 1 << 63, u64::MAX] {
+            for budget in BUDGETS {
+                cases.extend(counts(Call::OneHall { setting, budget }, &image));
             }
         }
     }
@@ -85,11 +110,16 @@ pub fn answers() -> Vec<Case> {
             condition: 0,
             setting: 1,
         };
+        let hall = Call::OneHall {
+            setting: 1,
+            budget: 9,
+        };
         let calls = [
             asked(Call::Check, &image, vec![]),
             asked(has, &image, vec![]),
             asked(Call::Configure { setting: 0 }, &image, vec![filled(120)]),
             asked(Call::PlainRun { budget: 9 }, &image, vec![filled(64)]),
+            asked(hall, &image, vec![filled(64)]),
             shared(&image, 1, 9, [16, 1, 1, 1]),
             shared(&image, 3, 9, [32, 2, 2, 2]),
             asked(Call::Report, &input, vec![filled(100)]),

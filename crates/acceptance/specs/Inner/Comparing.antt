@@ -4,18 +4,16 @@ use mathlib.Core.List.{List}
 use Prim.Native.Nat.{ℕ, zero, suc, _+_, _*_, _/_, _%_}
 use lib.Dec.{eqb, ltb, leb}
 use lib.IntN.{ℤ, pos, negsuc}
-use lib.ListN.{length, getD, take, replicate}
+use lib.ListN.{length, getD}
 use Rattle.sets.specs.Member.{bit}
 use Rattle.imp.specs.Numbers.{signed32}
 use Rattle.imp.specs.State.{Numbers}
 use Rattle.imp.specs.Shared.{Shared, total}
-use Rattle.image.specs.Bytes.{Bytes, over}
+use Rattle.image.specs.Bytes.{Bytes}
 use Rattle.image.specs.Rows.{Row, Answer, refused, answer, judge, written}
 use Rattle.image.specs.Sets.{settings}
-use Rattle.configure.specs.Configured.{configured, configure-rows}
 use Rattle.plain.specs.declared.progress.Progress.{Progress}
-use Rattle.plain.specs.PlainRun as Plain
-use Rattle.plain.specs.PlainRun.{progress-of, plain-rows}
+use Rattle.plain.specs.PlainRun.{meant-in, progress-of, hall-rows}
 use Rattle.shared.specs.declared.Ends.{Ends}
 use Rattle.shared.specs.Lent.{Tally, progress, part}
 use Rattle.shared.specs.SharedRun as Shared
@@ -60,28 +58,17 @@ own-start s = starts (s * 16) 16
 
 -- ---- one setting
 
--- a plain run that was carried out ended as p says, with the numbers `left`
+-- a run that was carried out ended as p says, with the numbers `left`
 abbrev pub ended-so : Answer Progress → Numbers → Progress → Numbers → Bool
 ended-so (answer q) ns p left = same-progress p q && same-numbers ns left
 ended-so (refused n k) ns p left = false
 
-unfoldable pub runs-so : Bytes → ℕ → ℕ → Progress → Numbers → Bool
-runs-so l s budget p left =
-    let ns : Numbers = own-start s in
-    let rows : List Row = plain-rows l budget (length ns) in
-    ended-so (judge rows (progress-of (Plain.meant l budget ns))) (written rows (Plain.meant l budget ns .numbers) ns) p left
-
--- f of the image that configuring wrote into `out`
-abbrev pub of-written : Answer ℕ → Bytes → (Bytes → Bool) → Bool
-of-written (answer n) out f = f (take n out)
-of-written (refused n k) out f = false
-
--- "the same numbers, outcome, code and steps as the plain run of the routine configured for it"
+-- "the same numbers, outcome, code and steps as the plain run of the routine configured for it": as the run of one hall
 unfoldable pub agrees : Bytes → ℕ → ℕ → Progress → Numbers → Bool
 agrees l s budget p left =
-    let space : Bytes = replicate 8200 0 in
-    let rows : List Row = configure-rows l s (length space) in
-    of-written (judge rows (length (configured l s))) (written rows (over (configured l s) space) space) λ m. runs-so m s budget p left
+    let ns : Numbers = own-start s in
+    let rows : List Row = hall-rows l s budget (length ns) in
+    ended-so (judge rows (progress-of (meant-in s l budget ns))) (written rows (meant-in s l budget ns .numbers) ns) p left
 
 -- "outside the set nothing changes and the outcome is idle"
 unfoldable pub stays : ℕ → Progress → Numbers → Bool

@@ -11,6 +11,7 @@ use Rattle.image.specs.Bytes.{Bytes}
 use Rattle.image.specs.Rows.{Row, Answer, refused, answer, judge, written, check-rows, NoneFails}
 use Rattle.image.specs.Sets.{settings}
 use Rattle.image.specs.Theorem.Given.{answered, carried-out}
+use Rattle.image.specs.Theorem.Carried.{none-each, none-both, written-new}
 use Rattle.shared.specs.declared.Ends.{Ends}
 use Rattle.shared.specs.declared.SharedRun.the-variants as Shared
 use Rattle.shared.specs.Lent.{Tally}
@@ -20,7 +21,6 @@ use Rattle.acceptance.specs.declared.compare.Compared.{Compared}
 use Rattle.acceptance.specs.declared.compare.Verdict.the-variants.{Of, Refused}
 use Rattle.acceptance.specs.Inner.Comparing.{starts, judged, compared}
 use Rattle.acceptance.specs.Inner.Expected.{compare-rows, verdict, holding, expected}
-use Rattle.acceptance.specs.Theorem.Rows.{none-each, none-both, written-new}
 use Rattle.acceptance.specs.Theorem.Compared.{shared-ended}
 use Rattle.acceptance.specs.Theorem.Holding.{starts-length, all-true}
 

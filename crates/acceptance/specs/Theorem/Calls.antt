@@ -20,7 +20,7 @@ use Rattle.configure.specs.Configured.{configured, configure-rows, configure-an
 use Rattle.plain.specs.declared.progress.Progress.{Progress}
 use Rattle.plain.specs.declared.PlainRun.{PlainRun}
 use Rattle.plain.specs.PlainRun as Plain
-use Rattle.plain.specs.PlainRun.{progress-of, plain-rows, plain-answer, Runs}
+use Rattle.plain.specs.PlainRun.{progress-of, plain-rows, hall-rows, plain-answer, RunsIn, Runs}
 use Rattle.shared.specs.declared.Ends.{Ends}
 use Rattle.shared.specs.declared.SharedRun.{SharedRun}
 use Rattle.shared.specs.Lent.{Tally}
@@ -31,6 +31,7 @@ use Rattle.shared.specs.SharedRun.{set-of, numbers-of, tally-of, ends-of, share
 pub data Call : Type 0 where
   shared-run : Bytes → (set budget : ℕ) → List ℤ → Tally → Call
   plain-run : Bytes → (budget : ℕ) → Numbers → Call
+  one-hall : Bytes → (setting budget : ℕ) → Numbers → Call
   configure : Bytes → (setting : ℕ) → (out : Bytes) → Call
   check : Bytes → Call
   condition-set : Bytes → (number : ℕ) → Call
@@ -57,6 +58,9 @@ comes-back (shared-run l set budget xs T) =
 comes-back (plain-run l budget ns) =
     let rows : List Row = plain-rows l budget (length ns) in
     plain (judge rows (progress-of (Plain.meant l budget ns))) (written rows (Plain.meant l budget ns .numbers) ns)
+comes-back (one-hall l s budget ns) =
+    let rows : List Row = hall-rows l s budget (length ns) in
+    plain (judge rows (progress-of (Plain.meant-in s l budget ns))) (written rows (Plain.meant-in s l budget ns .numbers) ns)
 comes-back (configure l s out) =
     let rows : List Row = configure-rows l s (length out) in
     configuring (judge rows (length (configured l s))) (written rows (over (configured l s) out) out)
@@ -100,6 +104,11 @@ pub plain-kept : {l : Bytes} {budget : ℕ} {ns ns′ : Numbers} {r : PlainRun}
     → Runs (plain-rows l budget (length ns)) l budget ns ns′ r → plain (plain-answer r) ns′ ≡ comes-back (plain-run l budget ns)
 unfolding comes-back
 plain-kept ran = λ i. plain (ran .answered i) (ran .numbers-are i)
+
+pub hall-kept : {l : Bytes} {s budget : ℕ} {ns ns′ : Numbers} {r : PlainRun}
+    → RunsIn s (hall-rows l s budget (length ns)) l budget ns ns′ r → plain (plain-answer r) ns′ ≡ comes-back (one-hall l s budget ns)
+unfolding comes-back
+hall-kept ran = λ i. plain (ran .answered i) (ran .numbers-are i)
 
 pub configuring-kept : {l : Bytes} {s : ℕ} {out out′ : Bytes} {r : Configured}
     → Configures (configure-rows l s (length out)) l s out out′ r → configuring (configure-answer r) out′ ≡ comes-back (configure l s out)

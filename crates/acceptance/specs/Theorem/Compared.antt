@@ -4,19 +4,16 @@ use mathlib.Core.Bool.{Bool, true, false, _&&_}
 use mathlib.Core.List.{List}
 use Prim.Native.Nat.{ℕ, _*_, _≤_, _<_}
 use lib.IntN.{ℤ}
-use lib.ListN.{length, take, replicate}
+use lib.ListN.{length}
 use borrow.Author.Tests.{lt-ltb, le-ltb}
 use Rattle.sets.specs.Member.{bit}
 use Rattle.imp.specs.State.{Numbers}
 use Rattle.image.specs.declared.refusals.Refusal.{Refusal}
 use Rattle.image.specs.Bytes.{Bytes}
-use Rattle.configure.specs.declared.Configured.{Configured}
-use Rattle.configure.specs.declared.Configured.the-variants as Configuring
-use Rattle.configure.specs.Configured.{configure-rows, configure-answer, Configures}
 use Rattle.plain.specs.declared.progress.Progress.{Progress}
 use Rattle.plain.specs.declared.PlainRun.{PlainRun}
 use Rattle.plain.specs.declared.PlainRun.the-variants as Plain
-use Rattle.plain.specs.PlainRun.{plain-rows, plain-answer, Runs}
+use Rattle.plain.specs.PlainRun.{hall-rows, plain-answer, RunsIn}
 use Rattle.shared.specs.declared.Ends.{Ends}
 use Rattle.shared.specs.declared.SharedRun.{SharedRun}
 use Rattle.shared.specs.declared.SharedRun.the-variants as Shared
@@ -24,39 +21,25 @@ use Rattle.shared.specs.Lent.{Tally}
 use Rattle.shared.specs.SharedRun.{shared-rows, shared-answer, SharedRuns}
 use Rattle.acceptance.specs.declared.compare.Verdict.the-variants.{Of, Refused}
 use Rattle.acceptance.specs.Condition3.{idle}
-use Rattle.acceptance.specs.Inner.Comparing.{same-numbers, same-progress, starts, own-start, ended-so, runs-so, of-written, agrees, stays, setting-holds, all-hold, judged, compared}
+use Rattle.acceptance.specs.Inner.Comparing.{same-numbers, same-progress, starts, own-start, ended-so, agrees, stays, setting-holds, all-hold, judged, compared}
 
 -- ---- one setting, of which p and `left` are told
 
 module _ (s : ℕ) (p : Progress) (left : Numbers) where
   module _ {l : Bytes} {budget : ℕ} {ns ns′ : Numbers} {r : PlainRun} (start : ns ≡ own-start s)
-      (ran : Runs (plain-rows l budget (length ns)) l budget ns ns′ r) where
-    ran-so : ended-so (plain-answer r) ns′ p left ≡ runs-so l s budget p left
-    unfolding runs-so
+      (ran : RunsIn s (hall-rows l s budget (length ns)) l budget ns ns′ r) where
+    ran-so : ended-so (plain-answer r) ns′ p left ≡ agrees l s budget p left
+    unfolding agrees
     ran-so =
-        let own = subst (λ ms. Runs (plain-rows l budget (length ms)) l budget ms ns′ r) start ran in
+        let own = subst (λ ms. RunsIn s (hall-rows l s budget (length ms)) l budget ms ns′ r) start ran in
         λ i. ended-so (own .answered i) (own .numbers-are i) p left
 
-    pub run-refused : {q : Refusal} → r ≡ Plain.Refused q → false ≡ runs-so l s budget p left
+    pub run-refused : {q : Refusal} → r ≡ Plain.Refused q → false ≡ agrees l s budget p left
     run-refused e = ap (λ a. ended-so (plain-answer a) ns′ p left) (sym e) ∙ ran-so
 
     pub run-ended : {q : Progress} {u v : Bool} → r ≡ Plain.Ended q → u ≡ same-progress p q → v ≡ same-numbers ns′ left
-        → u && v ≡ runs-so l s budget p left
+        → u && v ≡ agrees l s budget p left
     run-ended e f g = (λ i. f i && g i) ∙ ap (λ a. ended-so (plain-answer a) ns′ p left) (sym e) ∙ ran-so
-
-  module _ (budget : ℕ) {l out out′ : Bytes} {r : Configured} (blank : out ≡ replicate 8200 0)
-      (wrote : Configures (configure-rows l s (length out)) l s out out′ r) where
-    wrote-so : of-written (configure-answer r) out′ (λ m. runs-so m s budget p left) ≡ agrees l s budget p left
-    unfolding agrees
-    wrote-so =
-        let own = subst (λ xs. Configures (configure-rows l s (length xs)) l s xs out′ r) blank wrote in
-        λ i. of-written (own .answered i) (own .out-is i) λ m. runs-so m s budget p left
-
-    pub write-refused : {q : Refusal} → r ≡ Configuring.Refused q → false ≡ agrees l s budget p left
-    write-refused e = ap (λ a. of-written (configure-answer a) out′ (λ m. runs-so m s budget p left)) (sym e) ∙ wrote-so
-
-    pub written-so : {n : ℕ} {u : Bool} → r ≡ Configuring.Length n → u ≡ runs-so (take n out′) s budget p left → u ≡ agrees l s budget p left
-    written-so e f = f ∙ ap (λ a. of-written (configure-answer a) out′ (λ m. runs-so m s budget p left)) (sym e) ∙ wrote-so
 
   pub stays-so : {ns : Numbers} {u v : Bool} → ns ≡ own-start s → u ≡ same-progress p idle → v ≡ same-numbers ns left → u && v ≡ stays s p left
   unfolding stays

@@ -6,18 +6,18 @@ use Prim.Native.Nat.{ℕ, _≤_, _<_}
 use native.Mathlib.Omega.{arith}
 use lib.ListN.{length, take, drop}
 use lib.Seq.{take-at, drop-at}
-use borrow.Author.Tests.{lt-ltb, le-ltb}
+use borrow.Author.Tests.{lt-ltb, le-ltb, ltb-true, not-false}
 use Rattle.image.specs.Bytes.{Bytes, over}
 use Rattle.image.specs.Rows.{Row, answer, check-rows, NoneFails}
 use Rattle.image.specs.Sets.{settings}
 use Rattle.image.specs.Theorem.Given.{answered, carried-out}
 use Rattle.image.specs.Accepted.{Accepted}
-use Rattle.image.specs.Theorem.Accepted.{accepted, accepts}
+use Rattle.image.specs.Theorem.Accepted.{all-passed, accepts}
+use Rattle.image.specs.Theorem.Carried.{none-each, none-both, carried, written-new}
 use Rattle.configure.specs.declared.Configured.{Configured}
 use Rattle.configure.specs.declared.Configured.the-variants.{Length, Refused}
 use Rattle.configure.specs.Configured.{configured, space-rows, configure-rows, configure-answer, Configures}
 use Rattle.configure.specs.Theorem.Result.{shape-is, passes}
-use Rattle.acceptance.specs.Theorem.Rows.{none-each, none-both, carried, written-new}
 
 -- an answer that is no refusal
 length-answered : (r : Configured) (n : ℕ) → configure-answer r ≡ answer n → r ≡ Length n
@@ -39,7 +39,11 @@ module _ (l : Bytes) (s : ℕ) (out out′ : Bytes) where
 
     pub was-accepted : Accepted l
     unfolding configure-rows
-    was-accepted = accepted l n n (carried-out n (check-rows l) .1 (none-each (check-rows l) _ (done .0) .0))
+    was-accepted = all-passed l (none-each (check-rows l) _ (done .0) .0)
+
+    pub was-below : s < settings l
+    unfolding configure-rows
+    was-below = ltb-true s (settings l) (not-false _ (none-each (check-rows l) _ (done .0) .1 .0))
 
     pub length-written : n ≡ length (configured l s)
     length-written = done .1

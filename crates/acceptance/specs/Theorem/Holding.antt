@@ -1,26 +1,24 @@
 -- Condition 3 makes every comparison of the program true.
-use mathlib.Core.Path.{_≡_, refl, sym, _∙_, ap, subst}
+use mathlib.Core.Path.{_≡_, refl, sym, _∙_, ap}
 use mathlib.Core.Bool.{Bool, true, false}
 use mathlib.Core.List.{List}
-use Prim.Native.Nat.{ℕ, _+_, _*_, _≤_, _<_}
+use Prim.Native.Nat.{ℕ, _+_, _*_, _<_}
 use native.Mathlib.Omega.{arith}
 use lib.IntN.{ℤ, pos}
-use lib.ListN.{length, getD, take, drop, replicate, length-replicate}
+use lib.ListN.{length, getD, drop}
 use lib.Seq.{ext-getD, getD-take, getD-drop}
 use borrow.Author.Tests.{le-leb}
 use Rattle.sets.specs.Member.{bit}
 use Rattle.imp.specs.State.{State}
 use Rattle.imp.specs.Shared.{total}
-use Rattle.image.specs.Bytes.{Bytes, over}
+use Rattle.image.specs.Bytes.{Bytes}
 use Rattle.image.specs.Rows.{Row, NoneFails}
 use Rattle.image.specs.Sets.{settings}
 use Rattle.image.specs.Accepted.{Accepted}
 use Rattle.image.specs.Theorem.Given.{carried-out}
-use Rattle.configure.specs.declared.Configured.the-variants as Configuring
-use Rattle.configure.specs.Configured.{configured, configure-rows, Configures}
+use Rattle.image.specs.Theorem.Carried.{carried, written-new}
 use Rattle.plain.specs.declared.PlainRun.the-variants as Plain
-use Rattle.plain.specs.PlainRun as Plainly
-use Rattle.plain.specs.PlainRun.{progress-of, plain-rows, Runs}
+use Rattle.plain.specs.PlainRun.{meant-in, progress-of, hall-rows, RunsIn}
 use Rattle.shared.specs.declared.Ends.{Ends}
 use Rattle.shared.specs.declared.SharedRun.the-variants as Shared
 use Rattle.shared.specs.Lent.{Tally, progress, part}
@@ -28,13 +26,11 @@ use Rattle.shared.specs.SharedRun as Sharing
 use Rattle.shared.specs.SharedRun.{tally-of, ends-of, shared-rows, SharedRuns}
 use Rattle.acceptance.specs.Inner.Comparing.{first, starts, own-start, agrees, stays, setting-holds, all-hold}
 use Rattle.acceptance.specs.Condition3.{Condition3, condition-3}
-use Rattle.acceptance.specs.Theorem.Rows.{carried, written-new}
 use Rattle.acceptance.specs.Theorem.Left.{each-length, each-at, part-length}
 use Rattle.acceptance.specs.Theorem.Shared as Run
-use Rattle.acceptance.specs.Theorem.Configured as Written
-use Rattle.acceptance.specs.Theorem.Plain as Alone
+use Rattle.acceptance.specs.Theorem.Hall as Hall
 use Rattle.acceptance.specs.Theorem.Same.{every-true, same-numbers-is, same-progress-is}
-use Rattle.acceptance.specs.Theorem.Compared.{run-ended, written-so, stays-so, holds-inside, holds-outside}
+use Rattle.acceptance.specs.Theorem.Compared.{run-ended, stays-so, holds-inside, holds-outside}
 
 -- ---- the numbers that a setting starts with are its part of the store
 
@@ -70,48 +66,17 @@ module _ {l : Bytes} {set budget : ℕ} {xs xs′ : List ℤ} {T T′ : Tally} {
   own-part : (s : ℕ) → s < N → part xs s ≡ own-start s
   own-part s h = ap (λ ys. part ys s) begun ∙ part-of-start N s h
 
-  module _ (s : ℕ) (h : s < N) (i : bit set s ≡ true) where
-    abbrev space : Bytes
-    space = replicate 8200 0
-
-    abbrev n : ℕ
-    n = length (configured l s)
-
-    abbrev out : Bytes
-    out = over (configured l s) space
-
-    abbrev m : Bytes
-    m = take n out
-
-    room : 8200 ≤ length space
-    room = omega (arith, length-replicate {A = ℕ} 8200 0)
-
-    wrote : Configures (configure-rows l s (length space)) l s space out (Configuring.Length n)
-    wrote =
-        let rows : List Row = configure-rows l s (length space) in
-        let none : NoneFails rows = Written.none l s space out acc h (Written.enough l s (length space) acc room) in
-        record { answered = sym (carried-out n rows .1 none); out-is = sym (written-new rows out space none) }
-
-    is-configured : configured l s ≡ m
-    is-configured = sym (Written.image-written l s space out wrote)
-
-    abbrev end : State
-    end = Plainly.meant m budget (part xs s)
-
-    runs : Runs (plain-rows m budget (length (part xs s))) m budget (part xs s) (end .numbers) (Plain.Ended (progress-of end))
-    runs =
-        let rows : List Row = plain-rows m budget (length (part xs s)) in
-        let passes = Alone.none l acc s budget (Run.allowed ran) (part xs s) (Run.sixteen ran s h) in
-        let none : NoneFails rows = subst (λ k. NoneFails (plain-rows k budget (length (part xs s)))) is-configured passes in
-        record { answered = sym (carried-out (progress-of end) rows .1 none); numbers-are = sym (written-new rows (end .numbers) (part xs s) none) }
-
-    agree : true ≡ agrees l s budget (progress T′ s) (part xs′ s)
-    agree =
-        let ends = kept .inside s i space out n wrote (end .numbers) (Plain.Ended (progress-of end)) runs in
-        let same : progress-of end ≡ progress T′ s = let both = ends .0 in cc in
-        written-so s (progress T′ s) (part xs′ s) budget refl wrote refl
-        (run-ended s (progress T′ s) (part xs′ s) (own-part s h) runs refl
-        (sym (same-progress-is (progress T′ s) (progress-of end) .1 (sym same))) (sym (same-numbers-is (end .numbers) (part xs′ s) .1 (ends .1))))
+  agree : (s : ℕ) → s < N → bit set s ≡ true → true ≡ agrees l s budget (progress T′ s) (part xs′ s)
+  agree s h i =
+      let rows : List Row = hall-rows l s budget (length (part xs s)) in
+      let none : NoneFails rows = Hall.none l acc s budget h (Run.allowed ran) (part xs s) (Run.sixteen ran s h) in
+      let end : State = meant-in s l budget (part xs s) in
+      let runs : RunsIn s rows l budget (part xs s) (end .numbers) (Plain.Ended (progress-of end)) =
+      record { answered = sym (carried-out (progress-of end) rows .1 none); numbers-are = sym (written-new rows (end .numbers) (part xs s) none) } in
+      let ends = kept .inside s i (end .numbers) (Plain.Ended (progress-of end)) runs in
+      let same : progress-of end ≡ progress T′ s = let both = ends .0 in cc in
+      run-ended s (progress T′ s) (part xs′ s) (own-part s h) runs refl
+      (sym (same-progress-is (progress T′ s) (progress-of end) .1 (sym same))) (sym (same-numbers-is (end .numbers) (part xs′ s) .1 (ends .1)))
 
   stay : (s : ℕ) → s < N → bit set s ≡ false → true ≡ stays s (progress T′ s) (part xs′ s)
   stay s h i =

@@ -8,7 +8,7 @@ use Rattle.image.specs.Rows.{numbers, then, check-rows}
 use Rattle.image.specs.Sets.{condition-rows}
 use Rattle.listing.specs.Lists.{text-rows, list-rows}
 use Rattle.configure.specs.Configured.{space-rows, configure-rows}
-use Rattle.plain.specs.PlainRun.{lent-rows, plain-rows}
+use Rattle.plain.specs.PlainRun.{lent-rows, plain-rows, hall-rows}
 use Rattle.shared.specs.Lent.{Tally}
 use Rattle.shared.specs.SharedRun.{set-rows, shared-rows}
 use Rattle.lines.specs.Text.{run-rows, report-rows}
@@ -32,6 +32,10 @@ list-order l space = refl
 pub plain-order : (l : Bytes) (budget space : ℕ) → numbers (plain-rows l budget space) ≡ then (13 ∷ 10 ∷ 12 ∷ [])
 unfolding check-rows plain-rows lent-rows
 plain-order l budget space = refl
+
+pub hall-order : (l : Bytes) (s budget space : ℕ) → numbers (hall-rows l s budget space) ≡ then (11 ∷ 10 ∷ 12 ∷ [])
+unfolding check-rows hall-rows lent-rows
+hall-order l s budget space = refl
 
 pub shared-order : (l : Bytes) (set budget : ℕ) (xs : List ℤ) (T : Tally) → numbers (shared-rows l set budget xs T) ≡ then (9 ∷ 10 ∷ 12 ∷ [])
 unfolding check-rows shared-rows set-rows

@@ -19,15 +19,14 @@ use Rattle.image.specs.Bytes.{Bytes}
 use Rattle.image.specs.Rows.{Row, check-rows, NoneFails}
 use Rattle.image.specs.Sets.{settings}
 use Rattle.image.specs.Tree.{routine}
-use Rattle.image.specs.Theorem.Given.{carried-out}
 use Rattle.image.specs.Accepted.{Accepted}
-use Rattle.image.specs.Theorem.Accepted.{accepted}
+use Rattle.image.specs.Theorem.Accepted.{all-passed}
+use Rattle.image.specs.Theorem.Carried.{none-each, carried, written-new}
 use Rattle.plain.specs.PlainRun.{progress-of}
 use Rattle.shared.specs.declared.Ends.{Ends}
 use Rattle.shared.specs.declared.SharedRun.the-variants.{Ended}
 use Rattle.shared.specs.Lent.{Tally, progress, part}
 use Rattle.shared.specs.SharedRun.{meant, numbers-of, tally-of, ends-of, exact, set-rows, shared-rows, SharedRuns}
-use Rattle.acceptance.specs.Theorem.Rows.{none-each, carried, written-new}
 use Rattle.acceptance.specs.Theorem.Left.{each-at, each-past, part-length, numbers-at}
 
 module _ {l : Bytes} {set budget : ℕ} {xs xs′ : List ℤ} {T T′ : Tally} {e : Ends}
@@ -51,7 +50,7 @@ module _ {l : Bytes} {set budget : ℕ} {xs xs′ : List ℤ} {T T′ : Tally} {
   passed = none-each (check-rows l) (set-rows l set budget xs T) (none .0)
 
   pub is-accepted : Accepted l
-  is-accepted = accepted l budget budget (carried-out budget (check-rows l) .1 (passed .0))
+  is-accepted = all-passed l (passed .0)
 
   pub below : Below N (bit set)
   unfolding set-rows

@@ -13,6 +13,7 @@ use Rattle.image.specs.Tree.{routine}
 use Rattle.image.specs.Accepted.{Accepted}
 use Rattle.image.specs.Theorem.Accepted.{accepts}
 use Rattle.image.specs.Theorem.Given.{answered, carried-out}
+use Rattle.image.specs.Theorem.Carried.{none-both, carried, written-new}
 use Rattle.written.specs.Count.{recordsˢ}
 use Rattle.written.specs.Limits.{RECORDS}
 use Rattle.written.specs.Lister.{listed}
@@ -30,7 +31,6 @@ use Rattle.listing.specs.declared.Listed.{Listed}
 use Rattle.listing.specs.declared.Listed.the-variants.{Length, Refused}
 use Rattle.listing.specs.Lists.{listing-of, text-rows, list-rows, list-answer, Lists}
 use Rattle.listing.specs.Theorem.ReadBack.{was-accepted, few-records, found, reads-back}
-use Rattle.acceptance.specs.Theorem.Rows.{none-both, carried, written-new}
 use Rattle.acceptance.specs.Theorem.TextRead.{taken, kept, is-read, wrote, image-is}
 
 -- an answer that is no refusal

@@ -14,9 +14,9 @@ use Rattle.image.specs.Theorem.Headers.{editioned, edition-right, InRang
 use Rattle.image.specs.Theorem.Lowest.{all-pass, none-fails}
 use Rattle.image.specs.Accepted.{Accepted}
 
-passed : (l : Bytes) → NoneFails (check-rows l) → Accepted l
+pub all-passed : (l : Bytes) → NoneFails (check-rows l) → Accepted l
 unfolding check-rows named-wrong
-passed l none =
+all-passed l none =
     let h = header l in
     let edition = editioned h (none .1 .0) in
     let counts = in-range h (none .1 .1 .0) in
@@ -36,7 +36,7 @@ passed l none =
     }
 
 pub accepted : {A : Type 0} (l : Bytes) (x y : A) → judge (check-rows l) x ≡ answer y → Accepted l
-accepted l x y e = passed l (answered x (check-rows l) y e)
+accepted l x y e = all-passed l (answered x (check-rows l) y e)
 
 pub accepts : {A : Type 0} (l : Bytes) (x : A) → Accepted l → judge (check-rows l) x ≡ answer x
 unfolding check-rows short named-wrong

@@ -31,7 +31,7 @@ AllFit (n ∷ ns) = SFits w32 n × AllFit ns
 zero-fits : SFits w32 (pos 0)
 zero-fits = record { sfits = omega arith }
 
-getD-fits : (ns : Numbers) (v : ℕ) → AllFit ns → SFits w32 (getD ns v (pos 0))
+pub getD-fits : (ns : Numbers) (v : ℕ) → AllFit ns → SFits w32 (getD ns v (pos 0))
 getD-fits [] v f = zero-fits
 getD-fits (n ∷ ns) zero f = f .0
 getD-fits (n ∷ ns) (suc v) f = getD-fits ns v (f .1)

@@ -1,7 +1,7 @@
 -- Every text fits a space of 2,112 bytes: codes are of 32 bits, steps within the budget, and there are at most 64 settings.
 use mathlib.Core.Path.{_≡_, refl, sym, _∙_, subst}
 use mathlib.Core.List.{List, [], _∷_, _++_}
-use Prim.Native.Nat.{ℕ, zero, suc, _-_, _*_, _^_, _≤_, _<_}
+use Prim.Native.Nat.{ℕ, zero, suc, _-_, _*_, _≤_, _<_}
 use native.Mathlib.Nat.{pow-le-pow-right}
 use native.Mathlib.Omega.{arith}
 use lib.IntN.{ℤ, pos}
@@ -18,7 +18,8 @@ use Rattle.image.specs.Sets.{settings}
 use Rattle.image.specs.Tree.{routine}
 use Rattle.image.specs.Theorem.Given.{answered, carried-out}
 use Rattle.image.specs.Accepted.{Accepted}
-use Rattle.image.specs.Theorem.Accepted.{accepted}
+use Rattle.image.specs.Theorem.Carried.{none-each}
+use Rattle.image.specs.Theorem.Accepted.{all-passed}
 use Rattle.image.specs.Theorem.ReadValid.{read-valid}
 use Rattle.plain.specs.PlainRun.{progress-of}
 use Rattle.shared.specs.declared.Ends.{Ends}
@@ -31,7 +32,7 @@ use Rattle.lines.specs.Theorem.Lengths.{two, twenty, field-length, line-
 
 -- ---- the lines
 
-refusal-fits : (n p : ℕ) → length (refusal-line n p) ≤ 64
+pub refusal-fits : (n p : ℕ) → length (refusal-line n p) ≤ 64
 unfolding refusal-line
 refusal-fits n p =
     omega (arith, length-append (field refused-word n 32) (field at-word p 10), field-length refused-word n 32, field-length at-word p 10, twenty n, twenty p)
@@ -73,7 +74,7 @@ lines-fit (suc n) b ns Σ h few right =
 
 -- ---- the run starts from numbers of 32 bits
 
-zeros-fit : (n : ℕ) → AllFit (replicate n (pos 0))
+pub zeros-fit : (n : ℕ) → AllFit (replicate n (pos 0))
 zeros-fit zero = tt
 zeros-fit (suc n) = (record { sfits = omega arith }, zeros-fit n)
 
@@ -89,32 +90,29 @@ take-fit (suc n) (z ∷ ns) f = (f .0, take-fit n ns (f .1))
 
 -- ---- a run that is carried out
 
-none-before : (rows more : List Row) → NoneFails (rows ++ more) → NoneFails rows
-none-before [] more none = tt
-none-before (r ∷ rows) more none = (none .0, none-before rows more (none .1))
+module _ (l : Bytes) (acc : Accepted l) where
+  pub routine-valid : Valid (routine l)
+  unfolding routine
+  routine-valid = read-valid l (header l .conditions) (header l .nodes) (acc .nodes-fit) (header l .nodes - 1) (omega (arith, acc .some-node)) .statement-valid
 
-none-behind : (rows more : List Row) → NoneFails (rows ++ more) → NoneFails more
-none-behind [] more none = none
-none-behind (r ∷ rows) more none = none-behind rows more (none .1)
+  pub few-settings : settings l ≤ 64
+  unfolding settings
+  few-settings = pow-le-pow-right {n = 2} (omega arith) {i = header l .options} {j = 6} (acc .few-options)
 
 module _ (l : Bytes) (set budget : ℕ) where
   abbrev Σ : Shared
   Σ = run-of l set budget
 
   module _ (acc : Accepted l) (allowed : budget ≤ 100000) where
-    valid : Valid (routine l)
-    unfolding routine
-    valid = read-valid l (header l .conditions) (header l .nodes) (acc .nodes-fit) (header l .nodes - 1) (omega (arith, acc .some-node)) .statement-valid
-
     ranged : (s : ℕ) → s < settings l → InRange budget (part (zeros (settings l)) s) (Σ .at s)
     unfolding run-of meant part zeros
-    ranged s h = shared-range (settings l) budget (routine l) (bit set) (part (zeros (settings l))) valid s h
+    ranged s h = shared-range (settings l) budget (routine l) (bit set) (part (zeros (settings l))) (routine-valid l acc) s h
         (take-fit 16 (drop (s * 16) (zeros (settings l))) (drop-fit (s * 16) (zeros (settings l)) (zeros-fit (settings l * 16))))
 
     run-fits : length (told (settings l) (answer Σ)) ≤ enough
-    unfolding told settings
+    unfolding told
     run-fits =
-        let few : 2 ^ header l .options ≤ 64 = pow-le-pow-right {n = 2} (omega arith) {i = header l .options} {j = 6} (acc .few-options) in
+        let few : settings l ≤ 64 = few-settings l acc in
         omega (
           arith,
           few,
@@ -127,8 +125,8 @@ module _ (l : Bytes) (set budget : ℕ) where
   unfolding run-rows shared-rows set-rows
   none-fails none =
       let rows : List Row = set-rows l set budget (zeros (settings l)) (blank (settings l)) in
-      let first : NoneFails (check-rows l) = none-before (check-rows l) rows none in
-      run-fits (accepted l Σ Σ (carried-out Σ (check-rows l) .1 first)) (ltb-false 100000 budget (none-behind (check-rows l) rows none .1 .0))
+      let each = none-each (check-rows l) rows none in
+      run-fits (all-passed l (each .0)) (ltb-false 100000 budget (each .1 .1 .0))
 
 -- ---- the theorem
 

@@ -5,13 +5,10 @@ use Prim.Native.Nat.{ℕ, _-_, _<_}
 use native.Mathlib.Omega.{arith}
 use borrow.Author.Needs.{needs}
 use lib.IntN.{pos}
-use lib.Pow.{pow-pos}
 use Rattle.imp.specs.State.{outcome-number, code}
-use Rattle.image.specs.Bytes.{Bytes}
 use Rattle.image.specs.declared.accept.Shape.{Shape}
 use Rattle.image.specs.Records.{header}
 use Rattle.image.specs.Check.{shape-of}
-use Rattle.image.specs.Sets.{settings}
 use Rattle.image.specs.Accepted.{Accepted}
 use Rattle.image.specs.Theorem.Held.{root-class}
 use Rattle.plain.specs.Inner.Progress.{outcome-from, Proper}
@@ -35,10 +32,10 @@ module _ (c : tie.Start) where
   nodes-are = ap (λ (h : Shape). h .nodes) (c .pre .1)
 
 returns : tie.Need-returns
-returns c = plainly.over-budget _ _ _ (c .if1 .taken)
+returns c = plainly.over-budget _ _ _ _ (c .if1 .taken)
 
 returns-2 : tie.Need-returns-2
-returns-2 c = plainly.wrong-length _ _ _ (c .before .if1 .left) (c .if2 .taken)
+returns-2 c = plainly.wrong-length _ _ _ _ (c .before .if1 .left) (c .if2 .taken)
 
 condition-sets-requires : tie.Need-condition-sets-requires
 condition-sets-requires c κs = search needs
@@ -55,11 +52,6 @@ fresh-proper : Proper 1 (pos 0)
 unfolding outcome-from outcome-number code
 fresh-proper = record { outcome-is = refl; code-is = refl }
 
--- there is always setting 0
-setting-0 : (l : Bytes) → 0 < settings l
-unfolding settings
-setting-0 l = pow-pos (header l .options)
-
 run-requires : tie.Need-run-requires
 run-requires c κs =
     let start : tie.Start = c .before .before .before .before .before .before .before in
@@ -71,7 +63,7 @@ run-requires c κs =
           accepted = acc start;
           conditions-are = conditions-are start;
           sets-right = c .before .before .before .condition-sets .ensures .sets-are;
-          setting-below = setting-0 (l start);
+          setting-below = start .pre .2;
         };
         node-below = below;
         is-class = root-class (l start) (header (l start) .conditions) last (acc start .nodes-fit last below) (acc start .nodes-classed last below)
@@ -87,7 +79,7 @@ same-length c = search needs
 returns-3 : tie.Need-returns-3
 returns-3 c =
     let start : tie.Start = c .before .before .before .before .before .before .before .before .before in
-    plainly.ended (l start) _ _ (c .before .before .before .before .before .before .before .if1 .left) (c .before .before .before .before .before .before .if2 .left)
+    plainly.ended _ (l start) _ _ (c .before .before .before .before .before .before .before .if1 .left) (c .before .before .before .before .before .before .if2 .left)
     (nodes-are start) (c .before .run .ensures)
 
 pub run-accepted-spec : {M : Type 1} → statement M

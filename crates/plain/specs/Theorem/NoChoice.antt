@@ -15,20 +15,21 @@ use Rattle.image.specs.declared.records.Node.{Node}
 use Rattle.image.specs.Bytes.{Bytes}
 use Rattle.image.specs.Records.{header, node}
 use Rattle.image.specs.Layout.{kinds, layout, is-choice}
-use Rattle.image.specs.Rows.{lowest, lowest-row}
+use Rattle.image.specs.Rows.{lowest}
 use Rattle.image.specs.Tree.{kind-of, condition, Read, an-arithmetic, a-boolean, a-statement, reading, read-below, read, routine}
 use Rattle.image.specs.Accepted.{Accepted}
 use Rattle.image.specs.Theorem.Lower.{fitted}
 use Rattle.image.specs.Theorem.Kinds.{kind-cases}
 use Rattle.image.specs.Theorem.Choosing.{choice-condition}
 use Rattle.image.specs.Theorem.Lowest.{lowest-none}
+use Rattle.plain.specs.PlainRun.{choice-row}
 
 -- no node is a choice
 abbrev pub NoChoice : Bytes → Type 0
 NoChoice l = (n : ℕ) → n < header l .nodes → is-choice (node l n .kind) ≡ false
 
 -- row 13, "plain run of an image that holds a choice"
-pub no-choice-row : (l : Bytes) → NoChoice l → lowest-row 13 (header l .nodes) (λ n. is-choice (node l n .kind)) .fails ≡ false
+pub no-choice-row : (l : Bytes) → NoChoice l → choice-row l .fails ≡ false
 no-choice-row l none =
     let P : ℕ = header l .nodes in
     let choice : ℕ → Bool = λ n. is-choice (node l n .kind) in

@@ -1,72 +1,76 @@
--- `agrees` meets its contract: configuring answers and writes what its promise says, and the image that was written lies within the space.
-use mathlib.Core.Path.{_≡_, refl, sym, _∙_, ap, subst}
-use Prim.Native.Nat.{ℕ}
-use native.Mathlib.Omega.{arith}
-use lib.ListN.{length, take, length-take}
+-- `agrees` meets its contract: the run of one hall answers and leaves what its promise says.
+use mathlib.Core.Path.{_≡_}
+use Rattle.plain.specs.declared.progress.Progress.{Progress}
+use Rattle.acceptance.specs.Inner.Comparing.{own-start}
+use Rattle.acceptance.specs.Theorem.Compared.{run-refused, run-ended}
 use borrow.Author.Needs.{needs}
-use Rattle.image.specs.Bytes.{Bytes}
-use Rattle.configure.specs.declared.Configured.{Configured}
-use Rattle.configure.specs.declared.Configured.the-variants.{Length}
-use Rattle.configure.specs.Configured.{configured, configure-rows, Configures}
-use Rattle.acceptance.specs.Theorem.Rows.{carried}
-use Rattle.acceptance.specs.Theorem.Configured.{image-written}
-use Rattle.acceptance.specs.Theorem.Compared.{write-refused, written-so}
 use Rattle.acceptance.proofs.alone.agrees.Statement.{statement}
 use Rattle.acceptance.proofs.alone.agrees.Tie as tie
 
--- the length that configuring answers is that of the bytes it wrote
-long : {l out out′ : Bytes} {s n : ℕ} {r : Configured} → Configures (configure-rows l s (length out)) l s out out′ r → r ≡ Length n
-    → n ≡ length (take n out′)
-long {l} {out} {out′} {s} {n} wrote e =
-    let done : Configures (configure-rows l s (length out)) l s out out′ (Length n) = subst (Configures _ l s out out′) e wrote in
-    carried (configure-rows l s (length out)) (length (configured l s)) n (done .answered) .1 ∙ ap length (sym (image-written l s out out′ done))
+module _ (c : tie.After-one-hall) where
+  abbrev start : tie.Start
+  start = c .before .before .before .before .before .before
 
-slice-aggregate-configure : tie.Need-slice-aggregate-configure
-slice-aggregate-configure c = search needs
+  abbrev p : Progress
+  p = start .args .p
 
-configure-requires : tie.Need-configure-requires
-configure-requires c κs = search needs
+  begun : c .before .before .before .fill .last .1 .0 ≡ own-start (start .args .s)
+  begun = c .before .before .before .fill .ensures
+
+returns : tie.Need-returns
+returns c =
+    let ran : tie.After-one-hall = c .before .before .before in
+    run-refused _ (p ran) _ (begun ran) (ran .one-hall .ensures) (c .enum-told .given .1)
+
+returns-2 : tie.Need-returns-2
+returns-2 c =
+    let ran : tie.After-one-hall = c .before .before .before .before .before .before .before in
+    run-ended _ (p ran) _ (begun ran) (ran .one-hall .ensures) (c .before .before .before .before .q .given .1)
+    (c .before .before .equal .ensures) (c .same .ensures)
+
+mul-fill : tie.Need-mul-fill
+mul-fill c = search needs
+
+slice-aggregate-fill : tie.Need-slice-aggregate-fill
+slice-aggregate-fill c = search needs
+
+fill-requires : tie.Need-fill-requires
+fill-requires c κs = search needs
+
+slice-aggregate-one-hall : tie.Need-slice-aggregate-one-hall
+slice-aggregate-one-hall c = search needs
+
+one-hall-requires : tie.Need-one-hall-requires
+one-hall-requires c κs = search needs
 
 enum-told : tie.Need-enum-told
 enum-told c = search needs
 
-enum-known-n : tie.Need-enum-known-n
-enum-known-n c = search needs
+enum-known-q : tie.Need-enum-known-q
+enum-known-q c = search needs
 
-array-share-prefix-space : tie.Need-array-share-prefix-space
-array-share-prefix-space c =
-    let n = c .before .n .given in
-    let wrote = c .before .before .before .before .configure in
-    omega (arith, long (wrote .ensures) (n .1), length-take (n .0 .0) (wrote .last .1 .1 .0))
+equal-requires : tie.Need-equal-requires
+equal-requires c κs = search needs
 
-slice-aggregate-runs-so : tie.Need-slice-aggregate-runs-so
-slice-aggregate-runs-so c = long (c .before .before .before .before .before .configure .ensures) (c .before .before .n .given .1)
+slice-aggregate-same : tie.Need-slice-aggregate-same
+slice-aggregate-same c = search needs
 
-runs-so-requires : tie.Need-runs-so-requires
-runs-so-requires c κs = search needs
-
-returns : tie.Need-returns
-returns c =
-    let start : tie.Start = c .before .before .before .before .before .before in
-    let wrote = c .before .before .before .configure in
-    write-refused _ (start .args .p) _ _ refl (wrote .ensures) (c .enum-told .given .1)
-
-returns-2 : tie.Need-returns-2
-returns-2 c =
-    let start : tie.Start = c .before .before .before .before .before .before .before .before .before in
-    let wrote = c .before .before .before .before .before .before .configure in
-    written-so _ (start .args .p) _ _ refl (wrote .ensures) (c .before .before .before .n .given .1) (c .runs-so .ensures)
+same-requires : tie.Need-same-requires
+same-requires c κs = search needs
 
 pub agrees-spec : {M : Type 1} → statement M
 agrees-spec =
     tie.close
     (tie.spec
-    slice-aggregate-configure
-    configure-requires
+    mul-fill
+    slice-aggregate-fill
+    fill-requires
+    slice-aggregate-one-hall
+    one-hall-requires
     enum-told
-    enum-known-n
-    array-share-prefix-space
-    slice-aggregate-runs-so
-    runs-so-requires
+    enum-known-q
+    equal-requires
+    slice-aggregate-same
+    same-requires
     returns
     returns-2)
