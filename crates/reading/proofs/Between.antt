@@ -11,7 +11,7 @@ use Rattle.image.specs.Bytes.{Bytes}
 use Rattle.written.specs.Token.{nothing}
 use Rattle.written.specs.Word.{CATCH, WITH}
 use Rattle.written.specs.Machine.{variables, Stack, done, mark, want, Log, led, begin, plain, first, look, leads, counted, final}
-use Rattle.written.specs.Limits.{too-many}
+use Rattle.written.specs.Limits.{first-too-many}
 use Rattle.written.specs.Answer.{so-far, refused-17}
 use Rattle.written.specs.Theorem.From.{from}
 use Rattle.reading.specs.declared.cursor.Cursor.{Cursor}
@@ -57,7 +57,7 @@ module _ (text : Bytes) (c d : Cursor) (M : Meets text c d) (g : Good text d) wh
           no-step = λ i. enters text w (d .tight) (want F variables h) byte (M .faces .no-space l) (M .faces .apart l)
               ∙ subst (λ b. begin w (want F variables h) b ≡ none) e (none-begins w F variables h b (λ j. refl) (ne-eqb b 118 n, tt));
           no-end = λ i. absurd (omega (arith, i, M .faces .before-end l));
-          no-limit = none-limits text (d .at + 0) (refused-17 (d .at)) (too-many (reverse (w .spots)))
+          no-limit = none-limits text (d .at + 0) (refused-17 (d .at)) (first-too-many (reverse (w .spots)))
               (within-limits (w .spots) (omega (arith, k .nodes-are, g .few-nodes)) (omega (arith, k .records-are, g .few-records)));
         })));
     opened = record { kept = record { node-kept = M .opened .kept .node-kept; condition-kept = M .opened .kept .condition-kept }; nodes-opened = λ i. absurd (omega (arith, i)); records-opened = λ i. absurd (omega (arith, i)) };

@@ -13,7 +13,7 @@ use Rattle.image.specs.Bytes.{Bytes}
 use Rattle.written.specs.Token.{Lexeme, record-of}
 use Rattle.written.specs.Word.{TRUE, FALSE, NOT, LEFT}
 use Rattle.written.specs.Machine.{conditions, Stack, done, want, Log, led, lexed, option-leads, leads, counted, look, begin, plain, first, final}
-use Rattle.written.specs.Limits.{too-many}
+use Rattle.written.specs.Limits.{first-too-many}
 use Rattle.written.specs.Answer.{so-far, refused-17}
 use Rattle.written.specs.Count.{sizeᶜ}
 use Rattle.written.specs.Image.{wordsᶜ}
@@ -114,7 +114,7 @@ module _ (text : Bytes) (F : ℕ) (c₀ c : Cursor) (M : Meets text c₀ c) (g :
                 ∙ subst (λ b. begin w (want F conditions h) b ≡ none) e (none-begins w F conditions h b (λ d. refl)
                 (ne-eqb b 116 n1, (ne-eqb b 102 n2, (ne-eqb b 110 n3, (ne-eqb b 40 n4, no-option w F h b n5)))));
             no-end = λ i. absurd (omega (arith, i, M .faces .before-end l));
-            no-limit = none-limits text (c .at + 0) (refused-17 (c .at)) (too-many (reverse (w .spots)))
+            no-limit = none-limits text (c .at + 0) (refused-17 (c .at)) (first-too-many (reverse (w .spots)))
                 (within-limits (w .spots) (omega (arith, k .nodes-are, g .few-nodes)) (omega (arith, k .records-are, g .few-records)));
           })));
       opened = record { kept = record { node-kept = M .opened .kept .node-kept; condition-kept = M .opened .kept .condition-kept }; nodes-opened = λ i. absurd (omega (arith, i)); records-opened = λ i. absurd (omega (arith, i)) };

@@ -13,7 +13,7 @@ use Rattle.image.specs.Bytes.{Bytes}
 use Rattle.written.specs.Byte.{is-space, is-digit, is-run}
 use Rattle.written.specs.Token.{Opens, Spot}
 use Rattle.written.specs.Machine.{Stack, Log, Begun, behind, plain, first, digits, when, between-by, between, digits-by, first-fits, first-step, low, step, final}
-use Rattle.written.specs.Limits.{NODES, RECORDS, too-many, runs-on}
+use Rattle.written.specs.Limits.{NODES, RECORDS, first-too-many, runs-on}
 use Rattle.written.specs.Answer.{so-far, refused-17}
 use Rattle.written.specs.Theorem.From.{from, from-number}
 use Rattle.written.specs.Theorem.Spacing.{head-is, tail-is}
@@ -134,7 +134,7 @@ module _ (text : Bytes) (w : Log) (o : Opens) (hi : ℕ) (f : ℕ → Stack) whe
           inside = omega arith;
           no-step = λ k. by (is-digit (getD text at 0)) refl;
           no-end = λ k. absurd (omega arith);
-          no-limit = not-yet text (at + 0) (refused-17 at) m (too-many (reverse (m ∷ w .spots))) (it-or-none (w .spots) few-nodes few-records m) (not-whole (leb (at + 0) (at + 0)));
+          no-limit = not-yet text (at + 0) (refused-17 at) m (first-too-many (reverse (m ∷ w .spots))) (it-or-none (w .spots) few-nodes few-records m) (not-whole (leb (at + 0) (at + 0)));
         })
       where
         by : (u : Bool) → is-digit (getD text at 0) ≡ u → digits-by (begun-at w o at) u v hi f (getD text at 0) ≡ none
@@ -178,5 +178,5 @@ module _ (text : Bytes) (w : Log) (o : Opens) (p : Bool) (hi : ℕ) (f : ℕ →
         inside = h;
         no-step = λ k. ap (λ u. when u (digits (begun-at w o (suc at)) (getD text at 0 - 48) (low p + hi) f)) (e k);
         no-end = λ k. refl;
-        no-limit = none-limits text (at + 0) (refused-17 at) (too-many (reverse (w .spots))) (within-limits (w .spots) n r);
+        no-limit = none-limits text (at + 0) (refused-17 at) (first-too-many (reverse (w .spots))) (within-limits (w .spots) n r);
       })

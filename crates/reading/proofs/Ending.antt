@@ -10,7 +10,7 @@ use borrow.Author.Tests.{ne-eqb}
 use Rattle.image.specs.Bytes.{Bytes}
 use Rattle.written.specs.Byte.{is-wordy}
 use Rattle.written.specs.Machine.{Reading, Stack, done, Log, plain, between-by, between, step, final, go}
-use Rattle.written.specs.Limits.{NODES, RECORDS, too-many}
+use Rattle.written.specs.Limits.{NODES, RECORDS, first-too-many}
 use Rattle.written.specs.Answer.{so-far, last, reach, gives, refused-17, refused-18}
 use Rattle.written.specs.Theorem.From.{from}
 use Rattle.reading.specs.declared.cursor.Cursor.{Cursor}
@@ -61,7 +61,7 @@ module _ (text : Bytes) (c d : Cursor) (g : Good text c) (e : d ≡ passed text 
       let all : length text ≤ d .at = omega (arith, h) in
       here-live text d w (done R) l
       ∙ ap (λ m. from text m (plain w [] (d .tight) (done R)) (d .at)) (drop-of-length-le text all)
-      ∙ none-limits text (d .at + 0) (gives (record { reading = R; placed = reverse (w .spots) })) (too-many (reverse (w .spots))) (within-limits (w .spots) (few w k .0) (few w k .1))
+      ∙ none-limits text (d .at + 0) (gives (record { reading = R; placed = reverse (w .spots) })) (first-too-many (reverse (w .spots))) (within-limits (w .spots) (few w k .0) (few w k .1))
 
   pub end-here : d .refused ≡ 0 → d .at ≡ length text → EndWay text c d
   end-here l h = record {
@@ -82,7 +82,7 @@ module _ (text : Bytes) (c d : Cursor) (g : Good text c) (e : d ≡ passed text 
         inside = good .inside;
         no-step = λ j. ap (λ u. between-by w u (d .tight && is-wordy (getD text (d .at) 0)) (done R) (getD text (d .at) 0)) (P .stops l i) ∙ shut (d .tight && is-wordy (getD text (d .at) 0));
         no-end = λ j. absurd (omega (arith, i, j));
-        no-limit = none-limits text (d .at + 0) (refused-17 (d .at)) (too-many (reverse (w .spots))) (within-limits (w .spots) (few w k .0) (few w k .1));
+        no-limit = none-limits text (d .at + 0) (refused-17 (d .at)) (first-too-many (reverse (w .spots))) (within-limits (w .spots) (few w k .0) (few w k .1));
       })
     where
       shut : (v : Bool) → between-by w false v (done R) (getD text (d .at) 0) ≡ none

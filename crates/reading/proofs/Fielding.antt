@@ -1,6 +1,6 @@
 -- The parts of a node one behind the other: each leaves what the next one asks for.
 use mathlib.Core.Path.{_≡_, refl, sym, _∙_, ap, subst}
-use Prim.Native.Nat.{ℕ, zero, suc, _+_, _≤_, _<_}
+use Prim.Native.Nat.{ℕ, zero, suc, _≤_, _<_}
 use mathlib.Core.Bool.{Bool, true, false, _&&_, true≢false}
 use mathlib.Core.List.{List, _++_}
 use native.Mathlib.Omega.{arith}

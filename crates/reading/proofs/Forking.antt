@@ -15,7 +15,7 @@ use Rattle.image.specs.Bytes.{Bytes}
 use Rattle.written.specs.Token.{node, Spot}
 use Rattle.written.specs.Word.{THROW, TRY, CATCH, WITH}
 use Rattle.written.specs.Machine.{statements, arithmetics, variables, Stack, mark, want, Log, noted, begin, State, plain, fork, when, found, look, leads, forks, step, final}
-use Rattle.written.specs.Limits.{NODES, RECORDS, too-many, whole-in}
+use Rattle.written.specs.Limits.{NODES, RECORDS, first-too-many, whole-in}
 use Rattle.written.specs.Answer.{so-far, refused-17}
 use Rattle.written.specs.Theorem.From.{from}
 use Rattle.reading.specs.declared.cursor.Cursor.{Cursor}
@@ -83,13 +83,13 @@ module _ (text : Bytes) (c : Cursor) (l : Live c) (g : Good text c) (faces : Fac
               (found v (plain (noted w node true (w .at + 3)) (121 ∷ []) true (want F statements λ x. mark CATCH (want F variables λ v. mark WITH (want F statements λ y. f (try x v y))))) none))
               (ne-eqb second 104 other) n;
           no-end = λ i. refl;
-          no-limit = none-limits text (at + 0) (refused-17 at) (too-many (reverse (w .spots))) (within-limits (w .spots) few rare);
+          no-limit = none-limits text (at + 0) (refused-17 at) (first-too-many (reverse (w .spots))) (within-limits (w .spots) few rare);
         })
         ∙ sym (stuck text (tried-state w) at (record {
           inside = omega (arith, faces .before-end l);
           no-step = λ i. ap (λ u. when u (plain (noted w node true (w .at + 3)) (121 ∷ []) true tried)) n;
           no-end = λ i. refl;
-          no-limit = not-yet text (at + 0) (refused-17 at) m (too-many (reverse (m ∷ w .spots))) (it-or-none (w .spots) few rare m)
+          no-limit = not-yet text (at + 0) (refused-17 at) m (first-too-many (reverse (m ∷ w .spots))) (it-or-none (w .spots) few rare m)
               (ap (λ u. u && whole-in m text) (lt-leb (w .at + 3) (at + 0) (omega (arith, k .at-is))));
         }))
 

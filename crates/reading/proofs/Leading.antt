@@ -18,7 +18,7 @@ use Rattle.image.specs.Tree.{kind-of}
 use Rattle.written.specs.Byte.{is-wordy}
 use Rattle.written.specs.Token.{Lexeme, node, nothing, Opens}
 use Rattle.written.specs.Machine.{Stack, Log, minus, noted, led, bare, lexed, begin, plain, first, step, final}
-use Rattle.written.specs.Limits.{too-many}
+use Rattle.written.specs.Limits.{first-too-many}
 use Rattle.written.specs.Answer.{so-far, refused-17}
 use Rattle.written.specs.Theorem.From.{from, from-alike}
 use Rattle.reading.specs.declared.cursor.Cursor.{Cursor}
@@ -192,7 +192,7 @@ module _ (text : Bytes) (class : ℕ) (c₀ c : Cursor) (B : Begins text class c
             inside = B .good .inside;
             no-step = λ i. enters text w (c .tight) (wanted F g) byte (B .faces .no-space l) (B .faces .apart l) ∙ none-fits F g w;
             no-end = λ i. absurd (omega (arith, i, B .faces .before-end l));
-            no-limit = none-limits text (c .at + 0) (refused-17 (c .at)) (too-many (reverse (w .spots)))
+            no-limit = none-limits text (c .at + 0) (refused-17 (c .at)) (first-too-many (reverse (w .spots)))
                 (within-limits (w .spots) (omega (arith, k .nodes-are, B .good .few-nodes)) (omega (arith, k .records-are, B .good .few-records)));
           })));
       opened = record { kept = record { node-kept = B .opened-none .kept .node-kept; condition-kept = B .opened-none .kept .condition-kept }; nodes-opened = λ i. absurd (omega (arith, i)); records-opened = λ i. absurd (omega (arith, i)) };

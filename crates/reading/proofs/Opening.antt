@@ -13,7 +13,7 @@ use Rattle.image.specs.Bytes.{Bytes}
 use Rattle.written.specs.Byte.{is-run}
 use Rattle.written.specs.Token.{Opens, Spot}
 use Rattle.written.specs.Machine.{Stack, Log, noted, plain, between-by, between, step, final}
-use Rattle.written.specs.Limits.{NODES, RECORDS, too-many, runs-on}
+use Rattle.written.specs.Limits.{NODES, RECORDS, first-too-many, runs-on}
 use Rattle.written.specs.Answer.{so-far, refused-17, refused-18}
 use Rattle.written.specs.Theorem.From.{from, from-over}
 use Rattle.written.specs.Theorem.Now.{Now}
@@ -81,7 +81,7 @@ module _ (text : Bytes) (c : Cursor) (l : Live c) (g : Good text c) (end : ℕ) 
         no-step = λ i. ap₂ (λ u v. between-by (noted w o tight end) u v S (getD text end 0)) (space-no-run (getD text end 0) (t .1))
             (ap₂ _&&_ (t .0) (ap (λ u. u || eqb (getD text end 0) 45) (t .1)));
         no-end = λ i. absurd (omega (arith, i, run-inside text end inside (t .1)));
-        no-limit = not-yet text (end + 0) (refused-17 end) (own w) (too-many (reverse (own w ∷ w .spots))) (it-or-none (w .spots) (n .0) (n .1) (own w))
+        no-limit = not-yet text (end + 0) (refused-17 end) (own w) (first-too-many (reverse (own w ∷ w .spots))) (it-or-none (w .spots) (n .0) (n .1) (own w))
             (off-and (leb end (end + 0)) (tight && runs-on (drop end text)) (ap₂ _&&_ (t .0) r));
       })
 
@@ -113,12 +113,12 @@ module _ (text : Bytes) (c : Cursor) (l : Live c) (g : Good text c) (end : ℕ) 
   unfolding counted-to nodes-in records-in
   counts = by (leb (c .nodes + node-of o) NODES && leb (c .records + record-in o) RECORDS) refl
     where
-      over : (u : Bool) → (tight && is-run (getD text end 0)) ≡ u → (leb (c .nodes + node-of o) NODES && leb (c .records + record-in o) RECORDS) ≡ false
+      first-over : (u : Bool) → (tight && is-run (getD text end 0)) ≡ u → (leb (c .nodes + node-of o) NODES && leb (c .records + record-in o) RECORDS) ≡ false
           → Counts (cond u (refused-at c 17 end) (refused-at c 18 (c .at)))
-      over true e f =
+      first-over true e f =
           refuses 17 end (λ i. omega (arith, i))
           (to-17 text c (refused-at c 17 end) A l (omega arith) (record { inside = inside; few-nodes = g .few-nodes; few-records = g .few-records }) S refl (λ w k. read w k ∙ goes-on w k e))
-      over false e f =
+      first-over false e f =
           refuses 18 (c .at) (λ i. omega (arith, i))
           (to-18 text c (refused-at c 18 (c .at)) A l (omega arith) (record { inside = g .inside; few-nodes = g .few-nodes; few-records = g .few-records }) S refl (λ w k. read w k ∙ is-over w k e f))
 
@@ -134,4 +134,4 @@ module _ (text : Bytes) (c : Cursor) (l : Live c) (g : Good text c) (end : ℕ) 
             opened = record { kept = record { node-kept = refl; condition-kept = refl }; nodes-opened = λ i. refl; records-opened = λ i. refl };
             further = λ i. omega arith;
           }
-      by false e = over (tight && is-run (getD text end 0)) refl e
+      by false e = first-over (tight && is-run (getD text end 0)) refl e

@@ -14,7 +14,7 @@ use Rattle.written.specs.Byte.{is-space, is-wordy}
 use Rattle.written.specs.Token.{nothing, Spot}
 use Rattle.written.specs.Word.{RIGHT}
 use Rattle.written.specs.Machine.{Stack, done, mark, want, Log, plain, between-by, between, step, ended, final}
-use Rattle.written.specs.Limits.{too-many}
+use Rattle.written.specs.Limits.{first-too-many}
 use Rattle.written.specs.Answer.{so-far, refused-17}
 use Rattle.written.specs.Theorem.From.{from, from-space}
 use Rattle.written.specs.Theorem.Spacing.{head-is, tail-is}
@@ -146,7 +146,7 @@ module _ (text : Bytes) where
         inside = g .inside;
         no-step = λ i. ap₂ (λ u v. between-by w u v A (getD text (d .at) 0)) (n i) (t i);
         no-end = λ i. e w;
-        no-limit = none-limits text (d .at + 0) (refused-17 (d .at)) (too-many (reverse (w .spots)))
+        no-limit = none-limits text (d .at + 0) (refused-17 (d .at)) (first-too-many (reverse (w .spots)))
             (within-limits (w .spots) (omega (arith, k .nodes-are, g .few-nodes)) (omega (arith, k .records-are, g .few-records)));
       }))
 

@@ -14,7 +14,7 @@ use Rattle.image.specs.Bytes.{Bytes}
 use Rattle.written.specs.Byte.{is-run, is-wordy}
 use Rattle.written.specs.Token.{Lexeme, Opens, Spot}
 use Rattle.written.specs.Machine.{Stack, Log, noted, lexed, begin, plain, first, digits, low, first-fits, final}
-use Rattle.written.specs.Limits.{NODES, RECORDS, too-many, whole-in}
+use Rattle.written.specs.Limits.{NODES, RECORDS, first-too-many, whole-in}
 use Rattle.written.specs.Answer.{so-far, limited, Answer, refused-17}
 use Rattle.written.specs.Theorem.From.{from}
 use Rattle.reading.specs.declared.cursor.Cursor.{Cursor}
@@ -77,7 +77,7 @@ module _ (text : Bytes) (c : Cursor) (l : Live c) (g : Good text c) (A : Stack) 
           inside = g .inside;
           no-step = λ i. enters text w (c .tight) A (getD text (c .at) 0) (f .no-space l) (f .apart l) ∙ miss w e;
           no-end = λ i. absurd (omega (arith, i, f .before-end l));
-          no-limit = none-limits text (c .at + 0) (refused-17 (c .at)) (too-many (reverse (w .spots))) (within-limits (w .spots) (few-nodes w k) (few-records w k));
+          no-limit = none-limits text (c .at + 0) (refused-17 (c .at)) (first-too-many (reverse (w .spots))) (within-limits (w .spots) (few-nodes w k) (few-records w k));
         })
         ∙ ap refused-17 (omega arith))
 
@@ -101,9 +101,9 @@ module _ (text : Bytes) (c : Cursor) (l : Live c) (g : Good text c) (A : Stack) 
               entered w k e ∙ r .whole h ∙ ap₂ (λ i n. from text (drop i text) (plain (noted w o wordy n) [] wordy S) i) q u),
         )
       where
-        unended : (w : Log) → Logged c w → (p : ℕ) → p < end w → limited (too-many (reverse (own w ∷ w .spots))) text (p + 0) (refused-17 p) ≡ refused-17 p
+        unended : (w : Log) → Logged c w → (p : ℕ) → p < end w → limited (first-too-many (reverse (own w ∷ w .spots))) text (p + 0) (refused-17 p) ≡ refused-17 p
         unended w k p h =
-            not-yet text (p + 0) (refused-17 p) (own w) (too-many (reverse (own w ∷ w .spots))) (it-or-none (w .spots) (few-nodes w k) (few-records w k) (own w))
+            not-yet text (p + 0) (refused-17 p) (own w) (first-too-many (reverse (own w ∷ w .spots))) (it-or-none (w .spots) (few-nodes w k) (few-records w k) (own w))
             (ap (λ u. u && whole-in (own w) text) (lt-leb (end w) (p + 0) (omega (arith, h))))
 
     -- behind the first byte

@@ -14,7 +14,7 @@ use Rattle.image.specs.Bytes.{Bytes}
 use Rattle.written.specs.Byte.{is-space, is-wordy}
 use Rattle.imp.specs.Routine.{skip}
 use Rattle.written.specs.Machine.{Reading, Stack, done, Log, State, plain, when, begin, between-by, between, step, final, at-end, go}
-use Rattle.written.specs.Limits.{too-many}
+use Rattle.written.specs.Limits.{first-too-many}
 use Rattle.written.specs.Answer.{so-far, limited, within, refused-17, last, reach}
 use Rattle.written.specs.Theorem.From.{from, from-step, from-stop}
 use Rattle.reading.specs.Inner.Spelling.{agree}
@@ -29,7 +29,7 @@ module _ (text : Bytes) where
     pub inside : at ≤ length text
     pub no-step : at < length text → step q (getD text at 0) ≡ none
     pub no-end : length text ≤ at → final q ≡ none
-    pub no-limit : limited (too-many (reverse (so-far q))) text (at + 0) (refused-17 at) ≡ refused-17 at
+    pub no-limit : limited (first-too-many (reverse (so-far q))) text (at + 0) (refused-17 at) ≡ refused-17 at
 
   -- at the end of the text, or at a byte
   pub at-end-or-byte : (at : ℕ) → at ≤ length text → (length text ≤ at) ⊎ (at < length text)
@@ -46,7 +46,7 @@ module _ (text : Bytes) where
       by : (length text ≤ at) ⊎ (at < length text) → from text (drop at text) q at ≡ refused-17 at
       by (inl e) =
           ap (λ l. from text l q at) (drop-of-length-le text e)
-          ∙ ap (λ o. limited (too-many (reverse (so-far q))) text (at + 0) (within (at-end o at))) (h .no-end e)
+          ∙ ap (λ o. limited (first-too-many (reverse (so-far q))) text (at + 0) (within (at-end o at))) (h .no-end e)
           ∙ h .no-limit
       by (inr e) =
           ap (λ l. from text l q at) (drop-cons text at 0 e)
@@ -69,7 +69,7 @@ module _ (text : Bytes) where
     pub inside : at + j ≤ length text
     pub most : j ≤ length x
     pub whole : j ≡ length x → from text (drop at text) (plain w x g s) at ≡ from text (drop (at + j) text) (plain w [] g s) (at + j)
-    pub short : j < length x → ((p : ℕ) → p < at + length x → limited (too-many (reverse (w .spots))) text (p + 0) (refused-17 p) ≡ refused-17 p)
+    pub short : j < length x → ((p : ℕ) → p < at + length x → limited (first-too-many (reverse (w .spots))) text (p + 0) (refused-17 p) ≡ refused-17 p)
         → from text (drop at text) (plain w x g s) at ≡ refused-17 (at + j)
 
   moved : (q : State) (i j : ℕ) → i ≡ j → from text (drop i text) q i ≡ from text (drop j text) q j

@@ -7,7 +7,7 @@ use lib.Dec.{leb}
 use Rattle.image.specs.Bytes.{Bytes}
 use Rattle.written.specs.Token.{Spot}
 use Rattle.written.specs.Machine.{Result, behind, State, plain, fork, first, digits, step, start, Outcome, read, refused, outcome}
-use Rattle.written.specs.Limits.{too-many, whole-in}
+use Rattle.written.specs.Limits.{first-too-many, whole-in}
 
 -- the spots of the tokens that may have ended by now, the last first
 unfoldable pub so-far : State → List Spot
@@ -53,4 +53,4 @@ limited (some m) text n a = by-whole (leb (m .upto) n && whole-in m text) m a
 
 -- "the earlier byte decides": a whole token that opens too much stands before the byte that fits nothing
 unfoldable pub answer : Bytes → Answer
-answer text = limited (too-many (reverse (so-far (last text start)))) text (reach text start) (within (outcome text))
+answer text = limited (first-too-many (reverse (so-far (last text start)))) text (reach text start) (within (outcome text))

@@ -1,5 +1,5 @@
 -- The limits of 1,024 nodes and 256 conditions, by the places of the tokens that open them.
-use Prim.Native.Nat.{ℕ, zero, suc, _+_, _≤_}
+use Prim.Native.Nat.{ℕ, zero, suc, _≤_}
 use mathlib.Core.Path.{_≡_}
 use mathlib.Core.Bool.{Bool, false, not, _&&_}
 use mathlib.Core.List.{List, [], _∷_, _++_}
@@ -20,20 +20,20 @@ NODES = 1024
 abbrev pub RECORDS : ℕ
 RECORDS = 256
 
-abbrev pub over-by : Opens → ℕ → ℕ → Spot → (ℕ → ℕ → Option Spot) → Option Spot
-over-by nothing n k m on = on n k
-over-by node zero k m on = some m
-over-by node (suc n) k m on = on n k
-over-by record-of n zero m on = some m
-over-by record-of n (suc k) m on = on n k
+abbrev pub first-over-by : Opens → ℕ → ℕ → Spot → (ℕ → ℕ → Option Spot) → Option Spot
+first-over-by nothing n k m on = on n k
+first-over-by node zero k m on = some m
+first-over-by node (suc n) k m on = on n k
+first-over-by record-of n zero m on = some m
+first-over-by record-of n (suc k) m on = on n k
 
 -- the first token that opens a node past n or a condition past k
-unfoldable pub over : ℕ → ℕ → List Spot → Option Spot
-over n k [] = none
-over n k (m ∷ ms) = over-by (m .does) n k m λ n k. over n k ms
+unfoldable pub first-over : ℕ → ℕ → List Spot → Option Spot
+first-over n k [] = none
+first-over n k (m ∷ ms) = first-over-by (m .does) n k m λ n k. first-over n k ms
 
-abbrev pub too-many : List Spot → Option Spot
-too-many ms = over NODES RECORDS ms
+abbrev pub first-too-many : List Spot → Option Spot
+first-too-many ms = first-over NODES RECORDS ms
 
 -- the text begins with a letter or digit
 abbrev pub runs-on : Bytes → Bool
@@ -52,7 +52,7 @@ pub record Refused-18 (text : Bytes) (place : ℕ) : Type 0 where
   pub F : ℕ
   pub tree : Statement Condition
   pub fits : Placed (take (spot .upto) text ++ more) F tree others
-  pub is-first : too-many others ≡ some spot
+  pub is-first : first-too-many others ≡ some spot
   pub in-it : spot .upto ≤ length text
   pub whole : T (whole-in spot text)
   pub here : spot .from ≡ place

@@ -15,7 +15,7 @@ use Rattle.written.specs.Byte.{is-run}
 use Rattle.written.specs.Token.{Spot}
 use Rattle.written.specs.Grammar.{Placed, Refused-17}
 use Rattle.written.specs.Machine.{Result, State, step, start, Outcome, read, refused, outcome}
-use Rattle.written.specs.Limits.{too-many, runs-on, whole-in, Refused-18}
+use Rattle.written.specs.Limits.{first-too-many, runs-on, whole-in, Refused-18}
 use Rattle.written.specs.Answer.{so-far, or-stay, last, or-none, reach, Answer, gives, refused-17, refused-18, within, by-whole, limited, answer}
 use Rattle.written.specs.Theorem.Language.{Lang, Then}
 use Rattle.written.specs.Theorem.Spacing.{is-on, and-parts, and-both}
@@ -53,7 +53,7 @@ not-within (refused q) p e = let z : _≡_ {A = ℕ} 17 18 = ap kind e in absurd
 -- a token over a limit, noted and whole
 record Found (text : Bytes) (p : ℕ) : Type 0 where
   spot : Spot
-  noted : too-many (reverse (so-far (last text start))) ≡ some spot
+  noted : first-too-many (reverse (so-far (last text start))) ≡ some spot
   ended : spot .upto ≤ reach text start
   whole : T (whole-in spot text)
   here : spot .from ≡ p
@@ -62,7 +62,7 @@ found-by : (u : Bool) (m : Spot) (o : Outcome) (p : ℕ) → by-whole u m (withi
 found-by true m o p e = (tt, same-18 e)
 found-by false m o p e = absurd (not-within o p e)
 
-found-in : (k : Option Spot) (text : Bytes) (o : Outcome) (p : ℕ) → too-many (reverse (so-far (last text start))) ≡ k
+found-in : (k : Option Spot) (text : Bytes) (o : Outcome) (p : ℕ) → first-too-many (reverse (so-far (last text start))) ≡ k
     → limited k text (reach text start) (within o) ≡ refused-18 p → Found text p
 found-in none text o p d e = absurd (not-within o p e)
 found-in (some m) text o p d e =
@@ -73,7 +73,7 @@ found-in (some m) text o p d e =
 pub answered-18 : (text : Bytes) (p : ℕ) → answer text ≡ refused-18 p → Refused-18 text p
 unfolding answer
 answered-18 text p e =
-    let f = found-in (too-many (reverse (so-far (last text start)))) text (outcome text) p refl e in
+    let f = found-in (first-too-many (reverse (so-far (last text start)))) text (outcome text) p refl e in
     let n = reach text start in
     let u = f .spot .upto in
     let o = live (last text start) in
@@ -88,7 +88,7 @@ answered-18 text p e =
       F = o .result .reading .options;
       tree = o .result .reading .tree;
       fits = subst (λ l. Placed l (o .result .reading .options) (o .result .reading .tree) (o .result .placed)) s d;
-      is-first = ap (λ ms. too-many ms) (o .kept) ∙ kept-more (so-far (last text start)) (o .others) 1024 256 (f .spot) (f .noted);
+      is-first = ap (λ ms. first-too-many ms) (o .kept) ∙ kept-more (so-far (last text start)) (o .others) 1024 256 (f .spot) (f .noted);
       in-it = omega (arith, f .ended, reach-most text start);
       whole = f .whole;
       here = f .here;
@@ -97,8 +97,8 @@ answered-18 text p e =
 -- ---- from the definition to the answer
 
 -- what is noted at a place stays noted to the end
-on-by : (m : Spot) (q : State) (b : ℕ) (l : Bytes) (n : ℕ) (o : Option State) → step q b ≡ o → m .upto ≤ n → T (not (m .is-word && is-run b)) → too-many (reverse (so-far q)) ≡ some m
-    → Now (or-stay q o λ q′. last l q′) (n + or-none o (λ q′. reach l q′)) → too-many (reverse (so-far (or-stay q o λ q′. last l q′))) ≡ some m
+on-by : (m : Spot) (q : State) (b : ℕ) (l : Bytes) (n : ℕ) (o : Option State) → step q b ≡ o → m .upto ≤ n → T (not (m .is-word && is-run b)) → first-too-many (reverse (so-far q)) ≡ some m
+    → Now (or-stay q o λ q′. last l q′) (n + or-none o (λ q′. reach l q′)) → first-too-many (reverse (so-far (or-stay q o λ q′. last l q′))) ≡ some m
 unfolding Then
 on-by m q b l n none d h k e w = e
 on-by m q b l n (some q′) d h k e w =
@@ -107,8 +107,8 @@ on-by m q b l n (some q′) d h k e w =
     let z : Lang q (b ∷ x) (o .result) = step-sound q b x (o .result) (subst (λ p. Then p x (o .result)) (sym d) (last-lang l q′ (o .rest) (o .result) (o .goes))) in
     settled (n + suc (reach l q′)) m (omega arith) (last l q′) (o .rest) (o .result) w (o .goes) (stays m q b x (o .result) e k z)
 
-pub noted-on : (m : Spot) (q : State) (l : Bytes) (n : ℕ) → m .upto ≤ n → T (not (m .is-word && runs-on l)) → Now q n → too-many (reverse (so-far q)) ≡ some m
-    → too-many (reverse (so-far (last l q))) ≡ some m
+pub noted-on : (m : Spot) (q : State) (l : Bytes) (n : ℕ) → m .upto ≤ n → T (not (m .is-word && runs-on l)) → Now q n → first-too-many (reverse (so-far q)) ≡ some m
+    → first-too-many (reverse (so-far (last l q))) ≡ some m
 unfolding last reach
 noted-on m q [] n h k w e = e
 noted-on m q (b ∷ l) n h k w e = on-by m q b l n (step q b) refl h k e (now-last (b ∷ l) q n w)
@@ -118,7 +118,7 @@ unfolding Now start
 start-now = refl
 
 -- the token of Refusal 18 has been noted when the machine stops, and has ended by then
-pub noted-18 : (text : Bytes) (p : ℕ) (r : Refused-18 text p) → (too-many (reverse (so-far (last text start))) ≡ some (r .spot)) × (r .spot .upto ≤ reach text start)
+pub noted-18 : (text : Bytes) (p : ℕ) (r : Refused-18 text p) → (first-too-many (reverse (so-far (last text start))) ≡ some (r .spot)) × (r .spot .upto ≤ reach text start)
 noted-18 text p r =
     let m = r .spot in
     let u = m .upto in
@@ -128,13 +128,13 @@ noted-18 text p r =
     let a = lang-last l start (r .more) R (start-complete (l ++ r .more) (r .F) (r .tree) (r .others) (r .fits)) in
     let long : length l ≡ u = omega (arith, length-take u text, r .in-it) in
     let w : Now (last l start) u = subst (λ i. Now (last l start) i) (omega (arith, a .1, long)) (now-last l start 0 start-now) in
-    let e : too-many (reverse (so-far (last l start))) ≡ some m = settled u m (omega arith) (last l start) (r .more) R w (a .0) (r .is-first) in
+    let e : first-too-many (reverse (so-far (last l start))) ≡ some m = settled u m (omega arith) (last l start) (r .more) R w (a .0) (r .is-first) in
     let s : Same l l′ start = last-more l l′ start (a .1) in
     let t : l ++ l′ ≡ text = take-append-drop u text in
     let q : last text start ≡ last l′ (last l start) = subst (λ x. last x start ≡ last l′ (last l start)) t (s .0) in
     let n : reach text start ≡ length l + reach l′ (last l start) = subst (λ x. reach x start ≡ length l + reach l′ (last l start)) t (s .1) in
-    let k : too-many (reverse (so-far (last text start))) ≡ some m =
-    ap (λ q. too-many (reverse (so-far q))) q ∙ noted-on m (last l start) l′ u (omega arith) (r .whole) w e in
+    let k : first-too-many (reverse (so-far (last text start))) ≡ some m =
+    ap (λ q. first-too-many (reverse (so-far q))) q ∙ noted-on m (last l start) l′ u (omega arith) (r .whole) w e in
     (k, omega (arith, n, long))
 
 pub answers-18 : (text : Bytes) (p : ℕ) → Refused-18 text p → answer text ≡ refused-18 p
@@ -167,7 +167,7 @@ either-in (some m) text n a = either-by (leb (m .upto) n && whole-in m text) m a
 
 either : (text : Bytes) → (answer text ≡ within (outcome text)) ⊎ ((p : ℕ) × (answer text ≡ refused-18 p))
 unfolding answer
-either text = either-in (too-many (reverse (so-far (last text start)))) text (reach text start) (within (outcome text))
+either text = either-in (first-too-many (reverse (so-far (last text start)))) text (reach text start) (within (outcome text))
 
 pub answers-else : (text : Bytes) → ((p : ℕ) → Refused-18 text p → ⊥) → answer text ≡ within (outcome text)
 answers-else text h = go (either text)

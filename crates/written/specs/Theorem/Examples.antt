@@ -14,12 +14,12 @@ use Rattle.image.specs.Listing.{sizeᵃ, sizeˢ}
 use Rattle.image.specs.Term.{head-word, condition-word, node-word, bytes-of, all-bytes}
 use Rattle.written.specs.Count.{sizeᶜ, recordsᵃ, recordsˢ}
 use Rattle.written.specs.Image.{wordsᶜ, choicesᵃ, choicesˢ, nodesᵃ, nodesˢ, record-bytes, written-image}
-use Rattle.written.specs.Limits.{over}
+use Rattle.written.specs.Limits.{first-over}
 use Rattle.written.specs.Answer.{so-far, last, reach, Answer, refused-17, refused-18, answer}
 use Rattle.written.specs.Word.{bytes}
 
 opened : Unit {0}
-unfolding answer over so-far last reach outcome go step between look leads forks counted first-step final start
+unfolding answer first-over so-far last reach outcome go step between look leads forks counted first-step final start
 opened = tt
 
 -- a reading without the places of its tokens, or the place of a refusal

@@ -13,7 +13,7 @@ use Rattle.image.specs.Bytes.{Bytes}
 use Rattle.written.specs.Byte.{is-space, is-digit, is-letter, is-wordy}
 use Rattle.written.specs.Token.{Spot}
 use Rattle.written.specs.Machine.{Stack, Log, Begun, behind, State, plain, digits, when, past-space, between-by, between, digits-by, step, final, start, carry, go, outcome}
-use Rattle.written.specs.Limits.{too-many, runs-on, whole-in}
+use Rattle.written.specs.Limits.{first-too-many, runs-on, whole-in}
 use Rattle.written.specs.Answer.{so-far, or-stay, last, or-none, reach, Answer, refused-17, refused-18, within, by-whole, limited, answer}
 use Rattle.written.specs.Theorem.Spacing.{is-on, and-both}
 use Rattle.written.specs.Theorem.Now.{Now}
@@ -21,23 +21,23 @@ use Rattle.written.specs.Theorem.Answers.{noted-on}
 
 -- the answer to a text of which `at` bytes have led to q, with l still to come
 unfoldable pub from : Bytes → Bytes → State → ℕ → Answer
-from text l q at = limited (too-many (reverse (so-far (last l q)))) text (at + reach l q) (within (go l q at))
+from text l q at = limited (first-too-many (reverse (so-far (last l q)))) text (at + reach l q) (within (go l q at))
 
 pub from-start : (text : Bytes) → answer text ≡ from text text start 0
 unfolding answer from outcome
 from-start text =
     let e : reach text start ≡ 0 + reach text start = omega arith in
-    ap (λ n. limited (too-many (reverse (so-far (last text start)))) text n (within (go text start 0))) e
+    ap (λ n. limited (first-too-many (reverse (so-far (last text start)))) text n (within (go text start 0))) e
 
 -- ---- one byte
 
 with-step : Bytes → Bytes → State → ℕ → Option State → Answer
 with-step text l q at o =
-    limited (too-many (reverse (so-far (or-stay q o λ q′. last l q′)))) text (at + or-none o (λ q′. reach l q′)) (within (carry o at λ q′. go l q′ (suc at)))
+    limited (first-too-many (reverse (so-far (or-stay q o λ q′. last l q′)))) text (at + or-none o (λ q′. reach l q′)) (within (carry o at λ q′. go l q′ (suc at)))
 
 alike : (text l : Bytes) (q q′ : State) (at : ℕ) (o : Option State) → so-far q ≡ so-far q′ → with-step text l q at o ≡ with-step text l q′ at o
 unfolding with-step
-alike text l q q′ at none d = ap (λ ms. limited (too-many (reverse ms)) text (at + 0) (refused-17 at)) d
+alike text l q q′ at none d = ap (λ ms. limited (first-too-many (reverse ms)) text (at + 0) (refused-17 at)) d
 alike text l q q′ at (some p) d = refl
 
 by-step : (text : Bytes) (b : ℕ) (l : Bytes) (q : State) (at : ℕ) → from text (b ∷ l) q at ≡ with-step text l q at (step q b)
@@ -49,10 +49,10 @@ unfolding from with-step
 from-step text b l q q′ at e =
     let n : at + suc (reach l q′) ≡ suc at + reach l q′ = omega arith in
     by-step text b l q at
-    ∙ (ap (with-step text l q at) e ∙ ap (λ n. limited (too-many (reverse (so-far (last l q′)))) text n (within (go l q′ (suc at)))) n)
+    ∙ (ap (with-step text l q at) e ∙ ap (λ n. limited (first-too-many (reverse (so-far (last l q′)))) text n (within (go l q′ (suc at)))) n)
 
 -- a byte that fits nothing: Refusal 17, unless a whole token over a limit stands before it
-pub from-stop : (text : Bytes) (b : ℕ) (l : Bytes) (q : State) (at : ℕ) → step q b ≡ none → from text (b ∷ l) q at ≡ limited (too-many (reverse (so-far q))) text (at + 0) (refused-17 at)
+pub from-stop : (text : Bytes) (b : ℕ) (l : Bytes) (q : State) (at : ℕ) → step q b ≡ none → from text (b ∷ l) q at ≡ limited (first-too-many (reverse (so-far q))) text (at + 0) (refused-17 at)
 unfolding with-step
 from-stop text b l q at e = by-step text b l q at ∙ ap (with-step text l q at) e
 
@@ -96,7 +96,7 @@ from-number text (b ∷ l) B n hi f at h =
 
 -- once it has ended and is whole, the answer is Refusal 18 at its first byte, whatever follows
 pub from-over : (text l : Bytes) (q : State) (at : ℕ) (m : Spot) → Now q at → m .upto ≤ at → T (not (m .is-word && runs-on l)) → T (whole-in m text)
-    → too-many (reverse (so-far q)) ≡ some m → from text l q at ≡ refused-18 (m .from)
+    → first-too-many (reverse (so-far q)) ≡ some m → from text l q at ≡ refused-18 (m .from)
 unfolding from
 from-over text l q at m w h k j e =
     let a = within (go l q at) in

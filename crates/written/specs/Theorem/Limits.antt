@@ -13,7 +13,7 @@ use Rattle.image.specs.Bytes.{Bytes}
 use Rattle.written.specs.Byte.{is-digit, is-letter, is-run}
 use Rattle.written.specs.Token.{node, Spot, Decimal}
 use Rattle.written.specs.Machine.{statements, Result, Stack, want, Log, Begun, noted, behind, State, plain, fork, first, digits, forks, step, final}
-use Rattle.written.specs.Limits.{too-many}
+use Rattle.written.specs.Limits.{first-too-many}
 use Rattle.written.specs.Answer.{so-far, or-stay, last, or-none, reach}
 use Rattle.written.specs.Theorem.Language.{Left, Past, From, Upto, Lang, Then}
 use Rattle.written.specs.Theorem.Spacing.{or-left, and-both}
@@ -39,34 +39,34 @@ module _ (n : ℕ) (m : Spot) (h : m .upto ≤ n) where
   from-later i (k ∷ ms) h e = (omega (arith, e .0), from-later i ms h (e .1))
 
   -- behind a log whose place is n or later
-  noted-left : (w : Log) (g : Bool) (s : Stack) (l : Bytes) (R : Result) → n ≤ w .at → Left w g s l R → too-many (R .placed) ≡ some m → too-many (reverse (w .spots)) ≡ some m
+  noted-left : (w : Log) (g : Bool) (s : Stack) (l : Bytes) (R : Result) → n ≤ w .at → Left w g s l R → first-too-many (R .placed) ≡ some m → first-too-many (reverse (w .spots)) ≡ some m
   noted-left w g s l R k d e =
       kept-less Beyond (w .spots) (d .rest .places) 1024 256 m (from-later (w .at) (d .rest .places) k (later (d .rest .spaced))) not-beyond
-      (ap (λ ms. too-many ms) (d .rest .logged) ∙ e)
+      (ap (λ ms. first-too-many ms) (d .rest .logged) ∙ e)
 
   -- behind a token that ends past n, what was noted before it
-  noted-before : (w : Log) (k : Spot) → n < k .upto → too-many (reverse (k ∷ w .spots)) ≡ some m → too-many (reverse (w .spots)) ≡ some m
+  noted-before : (w : Log) (k : Spot) → n < k .upto → first-too-many (reverse (k ∷ w .spots)) ≡ some m → first-too-many (reverse (w .spots)) ≡ some m
   noted-before w k d e = kept-less Beyond (w .spots) (k ∷ []) 1024 256 m (d, tt) not-beyond e
 
   abbrev pub Noted : List Spot → Type 0
-  Noted ms = too-many (reverse ms) ≡ some m
+  Noted ms = first-too-many (reverse ms) ≡ some m
 
-  noted-fork : (w : Log) (upto : ℕ) (x : Bytes) (S : Stack) (l : Bytes) (R : Result) → n < upto → Past (noted w node true upto) x true S l R → too-many (R .placed) ≡ some m
+  noted-fork : (w : Log) (upto : ℕ) (x : Bytes) (S : Stack) (l : Bytes) (R : Result) → n < upto → Past (noted w node true upto) x true S l R → first-too-many (R .placed) ≡ some m
       → Noted (w .spots)
   noted-fork w upto x S l R k d e =
       noted-before w (record { does = node; is-word = true; from = w .at; upto = upto }) k (noted-left (noted w node true upto) true S (d .behind-it) R (omega arith) (d .left) e)
 
   settled-fork : (w : Log) (F : ℕ) (f : Statement Condition → Stack) (l : Bytes) (R : Result) → n ≡ suc (w .at) → Lang (fork w F f) l R
-      → too-many (R .placed) ≡ some m → Noted (w .spots)
+      → first-too-many (R .placed) ≡ some m → Noted (w .spots)
   unfolding forks Lang step final
   settled-fork w F f [] R k d e = let z = final-complete (fork w F f) R d in let y : _≡_ {A = ℕ} 0 1 = cc in absurd (omega arith)
   settled-fork w F f (b ∷ l) R k d e =
-      look-sound (λ b l R. too-many (R .placed) ≡ some m → Noted (w .spots)) (forks w F f)
+      look-sound (λ b l R. first-too-many (R .placed) ≡ some m → Noted (w .spots)) (forks w F f)
       ((λ l R p. noted-fork w (w .at + 5) (114 ∷ 111 ∷ 119 ∷ []) _ l R (omega arith) p), ((λ l R p. noted-fork w (w .at + 3) (121 ∷ []) _ l R (omega arith) p), tt))
       b l R (step-complete (fork w F f) b l R d) e
 
   settled-first : (B : Begun) (p : Bool) (hi : ℕ) (s : Stack) (l : Bytes) (R : Result) (x : Bytes) (v : ℕ) → n ≡ B .now → From p hi x v
-      → Past (behind B (B .now + length x)) x true s l R → too-many (R .placed) ≡ some m → Noted (B .log .spots)
+      → Past (behind B (B .now + length x)) x true s l R → first-too-many (R .placed) ≡ some m → Noted (B .log .spots)
   unfolding Decimal
   settled-first B p hi s l R [] v k g d e = absurd (g .0)
   settled-first B p hi s l R (c ∷ x) v k g d e =
@@ -74,7 +74,7 @@ module _ (n : ℕ) (m : Spot) (h : m .upto ≤ n) where
       (noted-left (behind B (B .now + suc (length x))) true s (d .behind-it) R (omega arith) (d .left) e)
 
   settled-digits : (B : Begun) (v hi : ℕ) (s : Stack) (l : Bytes) (R : Result) (x : Bytes) → n ≡ B .now
-      → Past (behind B (B .now + length x)) x true s l R → too-many (R .placed) ≡ some m → Noted ((behind B (B .now + 0)) .spots)
+      → Past (behind B (B .now + length x)) x true s l R → first-too-many (R .placed) ≡ some m → Noted ((behind B (B .now + 0)) .spots)
   settled-digits B v hi s l R [] k d e = noted-left (behind B (B .now + 0)) true s (d .behind-it) R (omega arith) (d .left) e
   settled-digits B v hi s l R (c ∷ x) k d e =
       kept-more (B .log .spots) (record { does = B .does; is-word = true; from = B .log .at; upto = B .now + 0 } ∷ []) 1024 256 m
@@ -82,7 +82,7 @@ module _ (n : ℕ) (m : Spot) (h : m .upto ≤ n) where
       (noted-left (behind B (B .now + suc (length x))) true s (d .behind-it) R (omega arith) (d .left) e))
 
   -- what is over a limit in some reading, and has ended, has been noted
-  pub settled : (q : State) (l : Bytes) (R : Result) → Now q n → Lang q l R → too-many (R .placed) ≡ some m → Noted (so-far q)
+  pub settled : (q : State) (l : Bytes) (R : Result) → Now q n → Lang q l R → first-too-many (R .placed) ≡ some m → Noted (so-far q)
   unfolding Now Lang so-far
   settled (plain w x g s) l R k d e = noted-left w g s (d .behind-it) R (omega arith) (d .left) e
   settled (fork w F f) l R k d e = settled-fork w F f l R k d e
@@ -91,29 +91,29 @@ module _ (n : ℕ) (m : Spot) (h : m .upto ≤ n) where
 
 -- ---- what has been noted stays, but for a number that goes on
 
-stays-left : (m : Spot) (w : Log) (g : Bool) (s : Stack) (l : Bytes) (R : Result) → too-many (reverse (w .spots)) ≡ some m → Left w g s l R → too-many (R .placed) ≡ some m
-stays-left m w g s l R e d = ap (λ ms. too-many ms) (sym (d .rest .logged)) ∙ kept-more (w .spots) (d .rest .places) 1024 256 m e
+stays-left : (m : Spot) (w : Log) (g : Bool) (s : Stack) (l : Bytes) (R : Result) → first-too-many (reverse (w .spots)) ≡ some m → Left w g s l R → first-too-many (R .placed) ≡ some m
+stays-left m w g s l R e d = ap (λ ms. first-too-many ms) (sym (d .rest .logged)) ∙ kept-more (w .spots) (d .rest .places) 1024 256 m e
 
-stays-after : (m : Spot) (w : Log) (k : Spot) (R : Result) (ms : List Spot) → too-many (reverse (w .spots)) ≡ some m → reverseAux (k ∷ w .spots) ms ≡ R .placed
-    → too-many (R .placed) ≡ some m
-stays-after m w k R ms e d = ap (λ ms. too-many ms) (sym d) ∙ kept-more (w .spots) (k ∷ ms) 1024 256 m e
+stays-after : (m : Spot) (w : Log) (k : Spot) (R : Result) (ms : List Spot) → first-too-many (reverse (w .spots)) ≡ some m → reverseAux (k ∷ w .spots) ms ≡ R .placed
+    → first-too-many (R .placed) ≡ some m
+stays-after m w k R ms e d = ap (λ ms. first-too-many ms) (sym d) ∙ kept-more (w .spots) (k ∷ ms) 1024 256 m e
 
 no-word : (m : Spot) (b : ℕ) → T (is-run b) → T (not (m .is-word && is-run b)) → T (m .is-word) → ⊥
 no-word m b h k j = T-not (m .is-word && is-run b) k (and-both (m .is-word) (is-run b) j h)
 
 stays-digits : (m : Spot) (B : Begun) (v hi : ℕ) (s : Stack) (b : ℕ) (l : Bytes) (R : Result) (x : Bytes) (y : ℕ) → Upto hi v x y
-    → too-many (reverse ((behind B (B .now + 0)) .spots)) ≡ some m → T (not (m .is-word && is-run b)) → Past (behind B (B .now + length x)) x true s (b ∷ l) R
-    → too-many (R .placed) ≡ some m
+    → first-too-many (reverse ((behind B (B .now + 0)) .spots)) ≡ some m → T (not (m .is-word && is-run b)) → Past (behind B (B .now + length x)) x true s (b ∷ l) R
+    → first-too-many (R .placed) ≡ some m
 unfolding Upto
 stays-digits m B v hi s b l R [] y u e k d = stays-left m (behind B (B .now + 0)) true s (d .behind-it) R e (d .left)
 stays-digits m B v hi s b l R (c ∷ x) y u e k d =
     let t : T (is-run b) = or-left (is-digit b) (is-letter b) (subst (λ c. T (is-digit c)) (sym ((shorter d) .0)) (u .1)) in
-    let z : too-many (reverse (B .log .spots)) ≡ some m =
+    let z : first-too-many (reverse (B .log .spots)) ≡ some m =
     kept-less (λ k. T (k .is-word)) (B .log .spots) (record { does = B .does; is-word = true; from = B .log .at; upto = B .now + 0 } ∷ []) 1024 256 m (tt, tt) (no-word m b t k) e in
     stays-after m (B .log) _ R (d .left .rest .places) z (d .left .rest .logged)
 
-pub stays : (m : Spot) (q : State) (b : ℕ) (l : Bytes) (R : Result) → too-many (reverse (so-far q)) ≡ some m → T (not (m .is-word && is-run b)) → Lang q (b ∷ l) R
-    → too-many (R .placed) ≡ some m
+pub stays : (m : Spot) (q : State) (b : ℕ) (l : Bytes) (R : Result) → first-too-many (reverse (so-far q)) ≡ some m → T (not (m .is-word && is-run b)) → Lang q (b ∷ l) R
+    → first-too-many (R .placed) ≡ some m
 unfolding Lang so-far
 stays m (plain w x g s) b l R e k d = stays-left m w g s (d .behind-it) R e (d .left)
 stays m (fork w F f) b l R e k d = stays-left m w false (want F statements f) (116 ∷ b ∷ l) R e d

@@ -15,7 +15,7 @@ use Rattle.written.specs.Word.{AND, OR, RIGHT, PLUS, ASK, COLON, UNBRACK
 use Rattle.written.specs.Token.{Token, fixed, Opens, nothing, node, record-of, opens, Spot, Spaced, end, space, next}
 use Rattle.written.specs.Grammar.{of-condition, of-arithmetic, of-boolean, of-statement, of-routine, Placed}
 use Rattle.written.specs.Machine.{Result, Log, behind, State, plain, fork, first, digits, done, mark, want, Stack, final, start, ended}
-use Rattle.written.specs.Limits.{over-by, over, too-many, Refused-18}
+use Rattle.written.specs.Limits.{first-over-by, first-over, first-too-many, Refused-18}
 use Rattle.written.specs.Answer.{so-far, last, gives, answer}
 use Rattle.written.specs.Count.{sizeᶜ, recordsᵃ, recordsᵇ, recordsˢ}
 use Rattle.written.specs.Theorem.Language.{Lang}
@@ -158,7 +158,7 @@ marked (next {t = t} s l h p e d) = (ap (node-of (opens t)) ((marked d) .0), ap 
 none-some : {x : Spot} → _≡_ {A = Option Spot} (some x) none → ⊥
 none-some e = let z : _≡_ {A = ℕ} 0 1 = cc in absurd (omega arith)
 
-few-by : (o : Opens) (n k a b : ℕ) (m : Spot) (f : ℕ → ℕ → Option Spot) → ((n k : ℕ) → f n k ≡ none → (a ≤ n) × (b ≤ k)) → over-by o n k m f ≡ none
+few-by : (o : Opens) (n k a b : ℕ) (m : Spot) (f : ℕ → ℕ → Option Spot) → ((n k : ℕ) → f n k ≡ none → (a ≤ n) × (b ≤ k)) → first-over-by o n k m f ≡ none
     → (node-of o a ≤ n) × (record-in o b ≤ k)
 few-by nothing n k a b m f h e = h n k e
 few-by node zero k a b m f h e = absurd (none-some e)
@@ -166,23 +166,23 @@ few-by node (suc n) k a b m f h e = (omega (arith, h n k e), omega (arith, h n k
 few-by record-of n zero a b m f h e = absurd (none-some e)
 few-by record-of n (suc k) a b m f h e = (omega (arith, h n k e), omega (arith, h n k e))
 
-few : (ms : List Spot) (n k : ℕ) → over n k ms ≡ none → (node-marks ms ≤ n) × (record-marks ms ≤ k)
-unfolding over
+few : (ms : List Spot) (n k : ℕ) → first-over n k ms ≡ none → (node-marks ms ≤ n) × (record-marks ms ≤ k)
+unfolding first-over
 few [] n k e = (omega arith, omega arith)
-few (m ∷ ms) n k e = few-by (m .does) n k (node-marks ms) (record-marks ms) m (λ n k. over n k ms) (λ n k. few ms n k) e
+few (m ∷ ms) n k e = few-by (m .does) n k (node-marks ms) (record-marks ms) m (λ n k. first-over n k ms) (λ n k. few ms n k) e
 
 none-by : (o : Opens) (n k a b : ℕ) (m : Spot) (f : ℕ → ℕ → Option Spot) → ((n k : ℕ) → a ≤ n → b ≤ k → f n k ≡ none) → node-of o a ≤ n → record-in o b ≤ k
-    → over-by o n k m f ≡ none
+    → first-over-by o n k m f ≡ none
 none-by nothing n k a b m f h p q = h n k p q
 none-by node zero k a b m f h p q = absurd (omega arith)
 none-by node (suc n) k a b m f h p q = h n k (omega arith) q
 none-by record-of n zero a b m f h p q = absurd (omega arith)
 none-by record-of n (suc k) a b m f h p q = h n k p (omega arith)
 
-none-over : (ms : List Spot) (n k : ℕ) → node-marks ms ≤ n → record-marks ms ≤ k → over n k ms ≡ none
-unfolding over
+none-over : (ms : List Spot) (n k : ℕ) → node-marks ms ≤ n → record-marks ms ≤ k → first-over n k ms ≡ none
+unfolding first-over
 none-over [] n k p q = refl
-none-over (m ∷ ms) n k p q = none-by (m .does) n k (node-marks ms) (record-marks ms) m (λ n k. over n k ms) (λ n k. none-over ms n k) p q
+none-over (m ∷ ms) n k p q = none-by (m .does) n k (node-marks ms) (record-marks ms) m (λ n k. first-over n k ms) (λ n k. none-over ms n k) p q
 
 -- the spots of a reading count the tree's nodes and its conditions written out
 sizes : (text : Bytes) (F : ℕ) (t : Statement Condition) (ms : List Spot) → Placed text F t ms → (node-marks ms ≡ sizeˢ t) × (record-marks ms ≡ recordsˢ t)
@@ -217,12 +217,12 @@ append-none [] = refl
 append-none (b ∷ l) = ap (λ l. b ∷ l) (append-none l)
 
 -- so a reading within the limits has no Refusal 18
-none-18 : (text : Bytes) (F : ℕ) (t : Statement Condition) (ms : List Spot) → Placed text F t ms → too-many ms ≡ none → (p : ℕ) → Refused-18 text p → ⊥
+none-18 : (text : Bytes) (F : ℕ) (t : Statement Condition) (ms : List Spot) → Placed text F t ms → first-too-many ms ≡ none → (p : ℕ) → Refused-18 text p → ⊥
 none-18 text F t ms h e p r =
     let R = result F t ms in
     let s : Lang start (text ++ []) R = subst (λ l. Lang start l R) (sym (append-none text)) (start-complete text F t ms h) in
     let a : ms ≡ reverse (so-far (last text start)) = all-marks (last text start) R (final-complete (last text start) R ((lang-last text start [] R s) .0)) in
-    none-some (sym ((noted-18 text p r) .0) ∙ (ap (λ ms. too-many ms) (sym a) ∙ e))
+    none-some (sym ((noted-18 text p r) .0) ∙ (ap (λ ms. first-too-many ms) (sym a) ∙ e))
 
 -- (e) the reader gives F, the tree and the places exactly where the text is a written form of them with at most 1,024 nodes and 256 conditions
 pub gives-within : (text : Bytes) (F : ℕ) (t : Statement Condition) (ms : List Spot)
@@ -232,7 +232,7 @@ gives-within text F t ms = (into, out)
     into : Placed text F t ms × (sizeˢ t ≤ 1024) × (recordsˢ t ≤ 256) → answer text ≡ gives (result F t ms)
     into h =
         let k = sizes text F t ms (h .0) in
-        let e : too-many ms ≡ none = none-over ms 1024 256 (omega (arith, k .0, h .1)) (omega (arith, k .1, h .2)) in
+        let e : first-too-many ms ≡ none = none-over ms 1024 256 (omega (arith, k .0, h .1)) (omega (arith, k .1, h .2)) in
         (gives-reading text F t ms) .0 (h .0, none-18 text F t ms (h .0) e)
 
     out : answer text ≡ gives (result F t ms) → Placed text F t ms × (sizeˢ t ≤ 1024) × (recordsˢ t ≤ 256)
