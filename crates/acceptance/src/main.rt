@@ -1,4 +1,6 @@
 // Condition 3 by calls: each routine on standard input is run over its set and, setting by setting, by itself.
+#![tactic(auto)]
+
 ghost use Rattle.std.specs.Prelude.{◌<◌, length};
 
 mod alone; // alone.rt: one setting by itself

@@ -1,4 +1,6 @@
 // Configuring: an image for one setting, as bytes.
+#![tactic(auto)]
+
 ghost use Rattle.std.specs.Prelude.{◌≡◌, length};
 ghost use Rattle.image.specs.Records.{header};
 ghost use Rattle.image.specs.Inner.Ready.{Ready};

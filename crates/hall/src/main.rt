@@ -1,4 +1,6 @@
 // The program of one hall: reads standard input, no more than 9,237 bytes, and writes how the routine ends in one setting and what its variables then hold.
+#![tactic(auto)]
+
 ghost use Rattle.std.specs.Prelude.{◌≡◌, ◌≤◌, length};
 ghost use Rattle.lines.specs.Limits.{most};
 ghost use Rattle.hall.specs.Stream.{Tells};

@@ -1,4 +1,6 @@
 // Images: what is refused, with which number and place, and what an accepted image holds.
+#![tactic(auto)]
+
 pub mod accept; // accept.rt: tests 1 to 8
 pub mod choice; // choice.rt: the side that a choice or a test takes
 pub mod conditions; // conditions.rt: the sets of conditions

@@ -1,4 +1,6 @@
 // Numbers of 32 bits: the sum that wraps, and the signed less.
+#![tactic(auto)]
+
 ghost use Rattle.std.specs.Prelude.{◌≡◌, ◌+ℤ◌, int_lt};
 ghost use Rattle.imp.specs.Numbers.{low32, signed32, wrap};
 

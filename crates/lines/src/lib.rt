@@ -1,4 +1,6 @@
 // The report: what a shared run answers and leaves, as text.
+#![tactic(auto)]
+
 ghost use Rattle.std.specs.Prelude.{◌*◌, ◌≤◌, length};
 ghost use Rattle.image.specs.Sets.{settings};
 ghost use Rattle.shared.specs.Lent.{tally};

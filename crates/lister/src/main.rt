@@ -1,5 +1,7 @@
 // The lister program: an image on standard input to its written form on standard output. Of an image that is refused nothing is written there, and a line says
 // so on standard error.
+#![tactic(auto)]
+
 ghost use Rattle.std.specs.Prelude.{◌≡◌, ◌≤◌, length};
 ghost use Rattle.image.specs.Refusals.{number_of, place_of};
 ghost use Rattle.image.specs.Rows.{refused, answer};

@@ -1,4 +1,6 @@
 // The lister: an image as a written form, laid out for people.
+#![tactic(auto)]
+
 ghost use Rattle.std.specs.Prelude.{length};
 ghost use Rattle.text.specs.Inner.Puts.{Puts};
 ghost use Rattle.listing.specs.Lists.{listing_of, text_rows, list_rows, Lists};

@@ -1,4 +1,6 @@
 // The run of one setting: the value of an expression, the plain run, and the run of one hall. What the shared run does in each of its settings is lent to it (`pub use`).
+#![tactic(auto)]
+
 ghost use Rattle.std.specs.Prelude.{◌≡◌, ◌<◌, length};
 ghost use Rattle.image.specs.Check.{shape_of};
 ghost use Rattle.image.specs.Sets.{settings};

@@ -1,5 +1,7 @@
 // The reader program: a routine in the written form on standard input to its image on standard output. Of a text that is refused, or that does not fit its
 // space, nothing is written there and a line says so on standard error.
+#![tactic(auto)]
+
 ghost use Rattle.std.specs.Prelude.{◌≡◌, ◌<◌, length};
 ghost use Rattle.image.specs.Refusals.{number_of, place_of};
 ghost use Rattle.image.specs.Rows.{refused, answer};

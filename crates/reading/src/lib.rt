@@ -1,4 +1,6 @@
 // Reading: a text in the written form to an image.
+#![tactic(auto)]
+
 ghost use Rattle.reading.specs.Reads.{ReadsText};
 
 mod bytes; // bytes.rt: what a byte can be

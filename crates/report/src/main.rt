@@ -1,4 +1,6 @@
 // The report program: reads standard input, no more than 9,237 bytes, and writes the text that `lines` makes of it. Nothing else.
+#![tactic(auto)]
+
 ghost use Rattle.std.specs.Prelude.{◌≡◌, ◌≤◌, length, take};
 ghost use Rattle.lines.specs.Limits.{most, enough};
 ghost use Rattle.report.specs.Stream.{Tells};

@@ -1,4 +1,6 @@
 // Sets of settings: a set is a 64-bit number, "bit s stands for setting s" (document 01). It goes in by value and the changed set comes back.
+#![tactic(auto)]
+
 ghost use Rattle.std.specs.Prelude.{◌≡◌, ◌&&◌, ◌||◌, not, ℕ, ◌^◌, eqb, ltb, leb, get_or};
 ghost use Rattle.sets.specs.Member.{bit, has, members, verdict_of, full_of, full_has};
 

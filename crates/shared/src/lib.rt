@@ -1,4 +1,6 @@
 // The run over a set of settings.
+#![tactic(auto)]
+
 ghost use Rattle.std.specs.Prelude.{◌≡◌, ◌&&◌, ◌*◌, ◌≤◌, [], eqb};
 ghost use Rattle.image.specs.Check.{shape_of};
 ghost use Rattle.image.specs.Sets.{settings};

@@ -1,4 +1,6 @@
 // What the programs share: standard input read into a space, to its end or until that is full, and a refusal said on standard error.
+#![tactic(auto)]
+
 ghost use Rattle.std.specs.Prelude.{◌≡◌, ◌≤◌, length};
 ghost use Rattle.image.specs.Refusals.{number_of, place_of};
 ghost use Rattle.lines.specs.Text.{refusal_line};

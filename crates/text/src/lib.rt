@@ -1,4 +1,6 @@
 // Texts written into a slice from a place on; the answer is the place behind them.
+#![tactic(auto)]
+
 ghost use Rattle.std.specs.Prelude.{◌+◌, ◌≤◌, length};
 ghost use Rattle.text.specs.Inner.Puts.{Puts};
 
