@@ -14,14 +14,14 @@ use plain::progress::Progress;
 use sets::Set;
 use shared::{SharedRun, shared_run};
 
-#[derive(Drop)]
+#[derive(Clone, Copy)]
 pub struct Compared {
     pub settings: usize,
     pub visits: u32,
     pub holds: bool,
 }
 
-#[derive(Drop)]
+#[derive(Clone, Copy)]
 pub enum Verdict {
     Refused,
     Of(Compared),

@@ -11,7 +11,7 @@ use plain::progress::Progress;
 use shared::Ends;
 
 // Carried out: number 0 and the call's values, 0 where it has no such value. Refused: number and place.
-#[derive(Drop)]
+#[derive(Clone, Copy)]
 pub struct Reply {
     pub number: usize,
     pub place: usize,

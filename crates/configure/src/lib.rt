@@ -17,7 +17,7 @@ use sizes::configured_size;
 use write::write;
 
 // The length written, or the refusal.
-#[derive(Drop)]
+#[derive(Clone, Copy)]
 pub enum Configured {
     Length(usize),
     Refused(Refusal),

@@ -12,14 +12,14 @@ use super::records::{Header, condition_at, header_at, node_at};
 use super::refusals::Refusal;
 
 // F, C and P.
-#[derive(Drop)]
+#[derive(Clone, Copy)]
 pub struct Shape {
     pub options: u32,
     pub conditions: usize,
     pub nodes: usize,
 }
 
-#[derive(Drop)]
+#[derive(Clone, Copy)]
 pub enum Checked {
     Good(Shape),
     Refused(Refusal),

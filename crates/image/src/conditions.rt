@@ -13,7 +13,7 @@ use super::records::condition_at;
 use super::refusals::Refusal;
 use sets::{Full, Set};
 
-#[derive(Drop)]
+#[derive(Clone, Copy)]
 pub enum ConditionSet {
     Of(Set),
     Refused(Refusal),

@@ -3,7 +3,7 @@ ghost use Rattle.std.specs.Prelude.{◌≡◌, ◌+◌, ◌*◌, ◌≤◌, leng
 ghost use Rattle.image.specs.Bytes.{number_at};
 ghost use Rattle.image.specs.Records.{header_fields, condition_fields, node_fields, header, condition_record, node};
 
-#[derive(Drop)]
+#[derive(Clone, Copy)]
 pub struct Header {
     pub edition: u64,
     pub options: u32,
@@ -12,7 +12,7 @@ pub struct Header {
     pub zero: u64,
 }
 
-#[derive(Drop)]
+#[derive(Clone, Copy)]
 pub struct ConditionRecord {
     pub kind: u32,
     pub option: u32,
@@ -21,7 +21,7 @@ pub struct ConditionRecord {
 }
 
 // A node's fields, and those of a number node over the same bits.
-#[derive(Drop)]
+#[derive(Clone, Copy)]
 pub struct Node {
     pub kind: u32,
     pub variable: usize,

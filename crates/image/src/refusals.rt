@@ -2,7 +2,7 @@
 ghost use Rattle.std.specs.Prelude.{◌≡◌};
 ghost use Rattle.image.specs.Refusals.{number_of, place_of};
 
-#[derive(Drop)]
+#[derive(Clone, Copy)]
 pub enum Refusal {
     ImageShort,
     EditionWrong,
@@ -25,7 +25,7 @@ pub enum Refusal {
 }
 
 // A refusal's number and its place.
-#[derive(Drop)]
+#[derive(Clone, Copy)]
 struct Tabled(u32, usize);
 
 // The papers' table.

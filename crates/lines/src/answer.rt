@@ -5,7 +5,7 @@ ghost use Rattle.lines.specs.Report.{Reports};
 use text::put;
 
 // How long the text is: all of it is in `out`, or `out` is too short and as it was.
-#[derive(Drop)]
+#[derive(Clone, Copy)]
 pub enum Report {
     Text(usize),
     Short(usize),

@@ -25,7 +25,7 @@ const RECORDS: usize = 256;
 const LONGEST: usize = 124692;
 
 // The length written, or the refusal.
-#[derive(Drop)]
+#[derive(Clone, Copy)]
 pub enum Listed {
     Length(usize),
     Refused(Refusal),

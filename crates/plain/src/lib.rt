@@ -23,7 +23,7 @@ use run::run;
 pub use step::{assign, begin, fault, take};
 
 // How the run ended, or the refusal.
-#[derive(Drop)]
+#[derive(Clone, Copy)]
 pub enum PlainRun {
     Ended(Progress),
     Refused(Refusal),

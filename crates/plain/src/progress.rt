@@ -12,7 +12,7 @@ pub const OUT: u8 = 3;
 // "budget over 100,000"
 pub const LARGEST_BUDGET: u32 = 100_000;
 
-#[derive(Drop)]
+#[derive(Clone, Copy)]
 pub struct Progress {
     pub outcome: u8,
     pub code: i32,

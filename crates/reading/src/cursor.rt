@@ -3,7 +3,7 @@ ghost use Rattle.std.specs.Prelude.{◌≡◌, ◌-◌};
 
 // The place, and whether a word or number ends right before it; how many nodes and condition records have been opened; the numbers of the next node and the next
 // condition to be written; and a refusal's number, of which `at` is the place, or 0.
-#[derive(Drop)]
+#[derive(Clone, Copy)]
 pub struct Cursor {
     pub at: usize,
     pub tight: bool,

@@ -15,7 +15,7 @@ use image::kinds::{
 };
 
 // Where the token leads to; the node's kind, and a number's 32 bits or a variable.
-#[derive(Drop)]
+#[derive(Clone, Copy)]
 pub struct Lead {
     pub cursor: Cursor,
     pub kind: u32,

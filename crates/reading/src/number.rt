@@ -19,7 +19,7 @@ pub const MOST_OPTIONS: u64 = 6;
 pub const HIGHEST: u64 = 2147483647;
 
 // A value, and the place behind its last digit.
-#[derive(Drop)]
+#[derive(Clone, Copy)]
 pub struct Digits {
     pub at: usize,
     pub value: u64,
@@ -57,7 +57,7 @@ fn read_digits(text: &[u8], from: usize, n: u64, most: u64) -> Digits
 }
 
 // A number read: where it leads to, and its value.
-#[derive(Drop)]
+#[derive(Clone, Copy)]
 pub struct Number {
     pub cursor: Cursor,
     pub value: u64,

@@ -9,7 +9,7 @@ use image::refusals::Refusal;
 use image::words::{head_word, put};
 
 // The length of the image written, or the refusal.
-#[derive(Drop)]
+#[derive(Clone, Copy)]
 pub enum ReadText {
     Length(usize),
     Refused(Refusal),

@@ -6,13 +6,13 @@ ghost use Rattle.sets.specs.Member.{bit, has, members, verdict_of, full_of, full
 
 mod panel; // panel.rt: the same for panel software in C
 
-#[derive(Drop)]
+#[derive(Clone, Copy)]
 pub struct Set {
     pub bits: u64,
 }
 
 // The answer of `Set::full`.
-#[derive(Drop)]
+#[derive(Clone, Copy)]
 pub enum Full {
     Of(Set),
     Refused,

@@ -32,7 +32,7 @@ use start::start_all;
 use turn::Turn;
 
 // "The answer is the visits, the set in fault and the set out."
-#[derive(Drop)]
+#[derive(Clone, Copy)]
 pub struct Ends {
     pub visits: u32,
     pub fault: Set,
@@ -40,7 +40,7 @@ pub struct Ends {
 }
 
 // How the run ended, or the refusal.
-#[derive(Drop)]
+#[derive(Clone, Copy)]
 pub enum SharedRun {
     Ended(Ends),
     Refused(Refusal),

@@ -4,7 +4,7 @@ ghost use Rattle.sets.specs.Member.{members};
 
 use sets::Set;
 
-#[derive(Drop)]
+#[derive(Clone, Copy)]
 pub struct Turn {
     pub on: Set,
     pub rem: u32,

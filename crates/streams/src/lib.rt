@@ -11,7 +11,7 @@ use libc::{STDERR_FILENO, STDIN_FILENO};
 use lines::put_refusal;
 
 // How many bytes were read, and whether reading failed. An input that has filled its space may go on.
-#[derive(Drop)]
+#[derive(Clone, Copy)]
 pub struct Input {
     pub bytes: usize,
     pub failed: bool,
