@@ -1,6 +1,6 @@
 -- The settings in which an option is off, by one rule: all ones divided by 2 ^ w + 1 are w ones and w zeros in turn, and option k has w = 2 ^ k.
 use mathlib.Core.Path.{◌≡◌, refl, sym, ap, ◌∙◌}
-use mathlib.Core.Bool.{false, ◌&&◌, not, and_false}
+use mathlib.Core.Bool.{false, ◌&&◌, not, and-false}
 use Prim.Native.Nat.{ℕ, zero, suc, ◌+◌, ◌-◌, ◌*◌, ◌/◌, ◌%◌, ◌^◌, ◌≤◌, ◌<◌}
 use native.Mathlib.Omega.{arith}
 use native.Mathlib.Nat.{two-pow-succ, mul-div_cancel, div-eq_of_lt, div-eq-sub-div, add-mul-div_left, mul-add, add-mul, mul-one, mul_assoc, mul_comm, lt_of_lt_of_le}
@@ -101,5 +101,5 @@ pub option_none : (n full k s : ℕ) → full < 2 ^ 2 ^ n → n ≤ k → (bit f
 option_none n full k s hf hk = go (dec_lt s (2 ^ n))
   where
     go : Dec (s < 2 ^ n) → (bit full s && bit s k) ≡ false
-    go (yes h) = rw (bit_past n s k h hk, and_false)
+    go (yes h) = rw (bit_past n s k h hk, and-false)
     go (no h) = rw (bit_past (2 ^ n) full s hf (omega arith))

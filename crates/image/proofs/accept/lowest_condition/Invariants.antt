@@ -1,0 +1,15 @@
+-- `lowest_condition` meets its contract: each condition that the loop has passed fits.
+use mathlib.Core.Bool.{not}
+use Prim.Native.Nat.{◌-◌}
+use native.Mathlib.Omega.{arith}
+use borrow.Author.Rules.{rules}
+use Rattle.image.specs.Records.{condition_record}
+use Rattle.image.specs.Rows.{condition_fits}
+use Rattle.image.proofs.Searches.{Passed, begins, goes_on, finds, ends}
+use Rattle.image.proofs.accept.lowest_condition.Given as goal
+
+abbrev pub invariant-loop-k : goal.invariant-loop-k
+invariant-loop-k l = Passed l.conditions (λ j. not (condition_fits l.options j (condition_record l.image j))) l.k
+
+abbrev pub decreases-loop-k : goal.decreases-loop-k
+decreases-loop-k l = l.conditions - l.k

@@ -1,0 +1,87 @@
+-- `condition_set` meets its contract: the check's refusal, then row 15, then the set that was worked out.
+use mathlib.Core.Path.{◌≡◌, sym, ◌∙◌, ap, fun_ext}
+use mathlib.Core.List.{List}
+use Prim.Native.Nat.{ℕ, ◌≤◌, ◌<◌}
+use native.Mathlib.Omega.{arith}
+use borrow.Author.Rules.{rules}
+use borrow.Author.Tests.{lt-ltb, le-ltb}
+use Rattle.sets.specs.Member.{bit}
+use Rattle.image.specs.declared.accept.Shape.{Shape}
+use Rattle.image.specs.Records.{header}
+use Rattle.image.specs.Rows.{refused, answer, judge, check_rows}
+use Rattle.image.specs.Check.{answer_of, shape_of}
+use Rattle.image.specs.Sets.{in_condition, condition_rows}
+use Rattle.image.specs.Accepted.{Accepted}
+use Rattle.image.specs.Theorem.Accepted.{accepts}
+use Rattle.image.specs.Theorem.Checked.{good_accepted, good_shape}
+use Rattle.image.specs.Theorem.Then.{judge_then, judge_stops}
+use Rattle.image.proofs.conditions.condition_set.Lts as lts
+use Rattle.image.proofs.conditions.condition_set.Reads as reads
+use Rattle.image.proofs.conditions.condition_set.Tie as tie
+use Rattle.image.proofs.conditions.condition_set.Goals as goal
+
+abbrev In-Good-2 : Type 0
+In-Good-2 = lts.After-shape tie.the-claims reads.Pre reads.Post
+
+abbrev Start : Type 0
+Start = lts.Start tie.the-claims reads.Pre reads.Post
+
+abbrev Else-shape-number : Type 0
+Else-shape-number = lts.Else1 tie.the-claims reads.Pre reads.Post
+
+-- the three answers
+module _ (l : List ℕ) (k : ℕ) where
+  refused_first : (n p : ℕ) → refused n p ≡ judge (check_rows l) (shape_of l) → refused n p ≡ judge (condition_rows l k) (in_condition l k)
+  unfolding condition_rows
+  refused_first n p e = sym (judge_stops (shape_of l) (check_rows l) _ (in_condition l k) n p (sym e))
+
+  beyond : Accepted l → (header l).conditions ≤ k → refused 15 0 ≡ judge (condition_rows l k) (in_condition l k)
+  unfolding condition_rows judge
+  beyond a h = sym (judge_then k (check_rows l) _ (in_condition l k) (accepts l k a) ∙ rw (le-ltb k (header l).conditions h))
+
+  found : Accepted l → k < (header l).conditions → (w : ℕ) → ((s : ℕ) → bit w s ≡ in_condition l k s)
+      → answer (bit w) ≡ judge (condition_rows l k) (in_condition l k)
+  unfolding condition_rows judge
+  found a h w e = ap answer (fun_ext e) ∙ sym (judge_then k (check_rows l) _ (in_condition l k) (accepts l k a) ∙ rw (lt-ltb k (header l).conditions h))
+
+
+-- where the image is good
+module _ (c : In-Good-2) where
+  abbrev start : Start
+  start = c.before.before.before.before
+
+  abbrev l : List ℕ
+  l = start.args.image.now
+
+  told : answer c.in-Good.shape ≡ judge (check_rows l) (shape_of l)
+  told = ap answer_of (sym c.in-Good.is) ∙ c.check.ensures
+
+  is_accepted : Accepted l
+  is_accepted = good_accepted l _ told
+
+  conditions_are : c.in-Good.shape.conditions ≡ (header l).conditions
+  unfolding shape_of
+  conditions_are = ap (λ (h : Shape). h.conditions) (good_shape l _ told)
+
+
+pub returns-then-shape-number : goal.returns-then-shape-number
+returns-then-shape-number c =
+    beyond (l c.before.before.before.before) (start c.before.before.before.before).args.number (is_accepted c.before.before.before.before) (omega (arith, conditions_are c.before.before.before.before, c.if-shape-number.true))
+
+pub condition_sets-sets-requires : goal.condition_sets-sets-requires
+condition_sets-sets-requires c =
+    (is_accepted c.before.before.before.before, good_shape (l c.before.before.before.before) _ (told c.before.before.before.before))
+
+number-below : (c : Else-shape-number) → (start c.before.before.before).args.number < (header (l c.before.before.before)).conditions
+number-below c = omega (arith, conditions_are c.before.before.before, c.if-shape-number.false)
+
+pub returns-in-Refused : goal.returns-in-Refused
+returns-in-Refused c =
+    refused_first _ _ _ _ (ap answer_of (sym c.in-Refused.is) ∙ c.check.ensures)
+
+pub returns-else-shape-number : goal.returns-else-shape-number
+returns-else-shape-number c =
+    let below = number-below c.before.before.before.before in
+    let sets = c.condition_sets-sets.ensures.sets_are in
+    found (l c.before.before.before.before.before.before.before) (start c.before.before.before.before.before.before.before).args.number (is_accepted c.before.before.before.before.before.before.before) below _
+    λ s. ap (λ x. bit x s) c.at.ensures ∙ sets.right (start c.before.before.before.before.before.before.before).args.number (omega (arith, below, conditions_are c.before.before.before.before.before.before.before)) s

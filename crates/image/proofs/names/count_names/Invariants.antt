@@ -1,0 +1,18 @@
+-- `count_names` meets its contract: after n nodes each counter has the names that they give its node.
+use mathlib.Core.Path.{◌≡◌, refl, ap, ◌∙◌}
+use Prim.Native.Nat.{ℕ, ◌-◌, ◌≤◌}
+use native.Mathlib.Omega.{arith}
+use native.Mathlib.Numerals.{add-one}
+use lib.ListN.{length, get_or}
+use Rattle.image.specs.Records.{node}
+use Rattle.image.specs.Rows.{names}
+use Rattle.image.specs.Inner.Lower.{Lower}
+use Rattle.image.specs.Theorem.Lower.{lower, lower_more}
+use Rattle.image.proofs.Counting.{names_le}
+use Rattle.image.proofs.names.count_names.Given as goal
+
+abbrev pub invariant-loop-n : goal.invariant-loop-n
+invariant-loop-n l =     (l.n ≤ l.nodes) × ((length l.initial.n ≡ length l.initial.counts) × ((k : ℕ) → get_or l.initial.n k 0 ≡ names l.image l.n k))
+
+abbrev pub decreases-loop-n : goal.decreases-loop-n
+decreases-loop-n l = l.nodes - l.n

@@ -1,0 +1,25 @@
+-- `lowest_named` meets its contract: once all nodes are passed, each counter has the names of its node.
+use mathlib.Core.Path.{◌≡◌, ◌∙◌}
+use mathlib.Core.Bool.{not}
+use Prim.Native.Nat.{ℕ}
+use native.Mathlib.Omega.{arith}
+use lib.Dec.{eqb}
+use lib.ListN.{get_or}
+use borrow.Author.Rules.{rules}
+use Rattle.image.specs.Rows.{named_wrong}
+use Rattle.image.specs.Theorem.Lowest.{lowest_same}
+use Rattle.image.proofs.Counting.{none_yet}
+use Rattle.image.proofs.names.lowest_named.Goals as goal
+
+pub count_names-requires : goal.count_names-requires
+count_names-requires c =
+    let known = c.requires in
+    (known.0, (omega arith, (omega arith, none_yet 1024)))
+
+pub returns : goal.returns
+unfolding named_wrong
+returns c =
+    let counted = c.count_names in
+    let same : (k : ℕ) → not (eqb (get_or counted.new.1.1.1.0 k 0) 1) ≡ named_wrong c.args.image.now k =
+    λ k. rw (counted.ensures k, c.requires.0.whole.nodes_are) in
+    c.lowest_wrong.ensures ∙ lowest_same _ _ _ (λ k h. same k)

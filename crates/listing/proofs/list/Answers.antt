@@ -1,0 +1,67 @@
+-- `list` meets its contract: the check's refusal, or what is left to rows 18 and 14.
+use mathlib.Core.Path.{◌≡◌, sym, ◌∙◌, ap}
+use mathlib.Core.List.{List}
+use Prim.Native.Nat.{ℕ}
+use lib.ListN.{length}
+use borrow.Author.Rules.{rules}
+use Rattle.image.specs.declared.refusals.Refusal.{Refusal}
+use Rattle.image.specs.Refusals.{number_of, place_of}
+use Rattle.image.specs.Rows.{refused, answer, judge, check_rows}
+use Rattle.image.specs.Check.{answer_of, shape_of}
+use Rattle.image.specs.Accepted.{Accepted}
+use Rattle.image.specs.Theorem.Accepted.{accepts}
+use Rattle.image.specs.Theorem.Checked.{good_accepted, good_shape}
+use Rattle.image.specs.Theorem.Then.{judge_then, judge_stops, written_then, written_stops}
+use Rattle.listing.specs.declared.Listed.{Listed}
+use Rattle.listing.specs.declared.Listed.TheVariants.{Refused}
+use Rattle.listing.specs.Lists.{text_rows, list_rows, Lists}
+use Rattle.listing.proofs.list.Lts as lts
+use Rattle.listing.proofs.list.Reads as reads
+use Rattle.listing.proofs.list.Tie as tie
+use Rattle.listing.proofs.list.Goals as goal
+
+abbrev In-Good-2 : Type 0
+In-Good-2 = lts.After-shape tie.the-claims reads.Pre reads.Post
+
+abbrev Start : Type 0
+Start = lts.Start tie.the-claims reads.Pre reads.Post
+
+module _ (l out : List ℕ) where
+  refused_first : (r : Refusal) → refused (number_of r) (place_of r) ≡ judge (check_rows l) (shape_of l)
+      → Lists (list_rows l (length out)) l out out (Refused r)
+  unfolding list_rows
+  refused_first r e = record {
+    answered = sym (judge_stops (shape_of l) (check_rows l) _ _ _ _ (sym e));
+    out_is = sym (written_stops (shape_of l) (check_rows l) _ _ _ _ _ (sym e));
+  }
+
+  goes_on : Accepted l → {out' : List ℕ} {r : Listed} → Lists (text_rows l (length out)) l out out' r → Lists (list_rows l (length out)) l out out' r
+  unfolding list_rows
+  goes_on a h = record {
+    answered = h.answered ∙ sym (judge_then (shape_of l) (check_rows l) _ _ (accepts l (shape_of l) a));
+    out_is = h.out_is ∙ sym (written_then (shape_of l) (check_rows l) _ _ _ (accepts l (shape_of l) a));
+  }
+
+
+-- where the image is good
+module _ (c : In-Good-2) where
+  abbrev start : Start
+  start = c.before.before.before.before.before
+
+  abbrev l : List ℕ
+  l = start.args.image.now
+
+  told : answer c.in-Good.shape ≡ judge (check_rows l) (shape_of l)
+  told = ap answer_of (sym c.in-Good.is) ∙ c.check.ensures
+
+
+pub list_good-requires : goal.list_good-requires
+list_good-requires c =
+    record { accepted = good_accepted (l c.before.before.before) _ (told c.before.before.before); shape_is = good_shape (l c.before.before.before) _ (told c.before.before.before) }
+
+pub returns-in-Refused : goal.returns-in-Refused
+returns-in-Refused c = refused_first _ _ _ (ap answer_of (sym c.in-Refused.is) ∙ c.check.ensures)
+
+pub returns-in-Good : goal.returns-in-Good
+returns-in-Good c =
+    goes_on (l c.before.before.before.before.before.before) _ (good_accepted (l c.before.before.before.before.before.before) _ (told c.before.before.before.before.before.before)) c.list_good.ensures

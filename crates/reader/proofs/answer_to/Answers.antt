@@ -1,0 +1,27 @@
+-- `answer_to`: there is room for the longest image, and what is written or said is what was told.
+use mathlib.Core.Path.{sym, subst}
+use native.Mathlib.Omega.{arith}
+use lib.Seq.{length-take-le}
+use borrow.Author.Rules.{rules}
+use Rattle.reader.specs.Stream.{Tells, as_told, Inside}
+use Rattle.reader.proofs.answer_to.Goals as goal
+
+pub deny-requires : goal.deny-requires
+deny-requires c =
+    let done = c.tell in
+    subst (λ x. Tells c.args.text.now c.args.n (as_told x done.new.1.1.0)) c.in-Refused.is done.ensures.1
+
+pub slice_bounds-space-end : goal.slice_bounds-space-end
+slice_bounds-space-end c =
+    let done = c.tell in
+    omega (arith, subst (λ x. Inside x done.new.1.1.0) c.in-Length.is done.ensures.0, done.auto.1.1.0)
+
+pub slice_bounds-give-end : goal.slice_bounds-give-end
+slice_bounds-give-end c =
+    let done = c.tell in
+    sym (length-take-le _ _ (omega (arith, subst (λ x. Inside x done.new.1.1.0) c.in-Length.is done.ensures.0)))
+
+pub give-requires : goal.give-requires
+give-requires c =
+    let done = c.tell in
+    subst (λ x. Tells c.args.text.now c.args.n (as_told x done.new.1.1.0)) c.in-Length.is done.ensures.1

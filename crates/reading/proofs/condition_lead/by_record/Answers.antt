@@ -1,0 +1,9 @@
+-- The word is read, and what it opens is a record.
+use borrow.Author.Rules.{rules}
+use mathlib.Core.Path.{ap}
+use Rattle.reading.specs.Inner.Token.{opens_of}
+use Rattle.reading.proofs.condition_lead.by_record.Goals as goal
+
+pub returns : goal.returns
+unfolding opens_of
+returns c = ap (λ d. record { cursor = d; kind = c.args.kind; value = 0 }) c.word.ensures

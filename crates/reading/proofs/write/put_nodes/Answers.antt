@@ -1,0 +1,19 @@
+-- The first i words are stored: one word more is stored right behind them.
+use Prim.Native.Nat.{◌-◌}
+use native.Mathlib.Omega.{arith}
+use borrow.Author.Rules.{rules}
+use Rattle.image.specs.Term.{all_bytes}
+use Rattle.reading.proofs.Imaging.{PutSoFar, wide_nodes, put_start, put_more, put_end}
+use Rattle.reading.proofs.write.put_nodes.Goals as goal
+
+pub loop-i-init : goal.loop-i-init
+loop-i-init c = put_start 8 all_bytes wide_nodes _ _ _ _
+
+pub loop-i-smaller : goal.loop-i-smaller
+loop-i-smaller c = omega arith
+
+pub loop-i-preserved : goal.loop-i-preserved
+loop-i-preserved c = search (put_more 8 all_bytes wide_nodes, rules)
+
+pub returns : goal.returns
+returns c = search (put_end 8 all_bytes wide_nodes, rules)

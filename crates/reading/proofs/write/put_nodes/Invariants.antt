@@ -1,0 +1,13 @@
+-- The first i words are stored: one word more is stored right behind them.
+use Prim.Native.Nat.{◌-◌}
+use native.Mathlib.Omega.{arith}
+use borrow.Author.Rules.{rules}
+use Rattle.image.specs.Term.{all_bytes}
+use Rattle.reading.proofs.Imaging.{PutSoFar, wide_nodes, put_start, put_more, put_end}
+use Rattle.reading.proofs.write.put_nodes.Given as goal
+
+abbrev pub invariant-loop-i : goal.invariant-loop-i
+invariant-loop-i l = PutSoFar all_bytes l.initial.out l.out l.at l.nodes l.initial.i l.i
+
+abbrev pub decreases-loop-i : goal.decreases-loop-i
+decreases-loop-i l = l.nodes - l.i

@@ -1,0 +1,46 @@
+-- `sets_full` meets its contract: the bits of a full set, or 0 for a refusal, which no full set is.
+use mathlib.Core.Path.{◌≡◌, refl, ap, subst, ◌∙◌}
+use mathlib.Core.Bool.{Bool, true, false, ◌&&◌}
+use Prim.Native.Nat.{ℕ, ◌-◌, ◌^◌}
+use native.Mathlib.Omega.{arith}
+use lib.Dec.{eqb, leb, ltb}
+use lib.Pow.{pow_pos, pow-lt}
+use borrow.Author.Rules.{rules}
+use borrow.Author.Tests.{ne_eqb}
+use Rattle.sets.specs.declared.Full.{Full}
+use Rattle.sets.specs.declared.Full.TheVariants.{Of, Refused}
+use Rattle.sets.specs.Member.{bit, verdict_of, judged, full_of, full_has, bits_of}
+use Rattle.sets.proofs.Laws.{bit_none}
+use Rattle.sets.proofs.panel.sets_full.Goals as goal
+
+-- the contract of the result that stands for the answer a
+abbrev Told : ℕ → Full → Type 0
+Told f a =
+    (bits_of (verdict_of a) ≡ bits_of (full_of f)) ×
+    ((eqb (bits_of (verdict_of a)) 0 ≡ ltb 6 f) × ((s : ℕ) → bit (bits_of (verdict_of a)) s ≡ (leb f 6 && ltb s (2 ^ f))))
+
+empty_refused : (b : Bool) (f : ℕ) → eqb (bits_of (judged b f)) 0 ≡ b
+empty_refused true f = refl
+empty_refused false f = ne_eqb (2 ^ 2 ^ f - 1) 0 (λ e. omega (arith, pow-lt {i = 0} {j = 2 ^ f} (pow_pos f)))
+
+bits_has : (a : Full) (s : ℕ) → bit (bits_of (verdict_of a)) s ≡ full_has a s
+bits_has (Of S) s = refl
+bits_has Refused s = bit_none s
+
+told : (f : ℕ) (a : Full) → verdict_of a ≡ full_of f → ((s : ℕ) → full_has a s ≡ (leb f 6 && ltb s (2 ^ f))) → Told f a
+unfolding full_of
+told f a verdict members =
+    let same = ap bits_of verdict in
+    (same, (ap (λ (n : ℕ). eqb n 0) same ∙ empty_refused (ltb 6 f) f, λ s. bits_has a s ∙ members s))
+
+pub returns-in-Of : goal.returns-in-Of
+returns-in-Of c =
+    let call = c.full in
+    let t = subst (Told c.args.f) c.in-Of.is (told _ call.result call.ensures.result_value call.ensures.by_index) in
+    record { value = t.0; result_value = t.1.0; by_index = t.1.1 }
+
+pub returns-in-Refused : goal.returns-in-Refused
+returns-in-Refused c =
+    let call = c.full in
+    let t = subst (Told c.args.f) c.in-Refused.is (told _ call.result call.ensures.result_value call.ensures.by_index) in
+    record { value = t.0; result_value = t.1.0; by_index = t.1.1 }

@@ -1,0 +1,19 @@
+-- `ended` meets its contract: before each turn the settings below s with this outcome are found.
+use mathlib.Core.Path.{◌≡◌}
+use mathlib.Core.Bool.{true}
+use Prim.Native.Nat.{◌-◌, ◌^◌, ◌≤◌, ◌<◌}
+use native.Mathlib.Omega.{arith}
+use native.Mathlib.Numerals.{add-one}
+use lib.Dec.{eqb}
+use lib.ListN.{length, get_or}
+use borrow.Author.Rules.{rules}
+use Rattle.shared.proofs.Found.{Found, found_none, found_next}
+use Rattle.shared.proofs.SetOf.{found_set}
+use Rattle.shared.proofs.ended.ended.Given as goal
+
+abbrev pub invariant-loop-s : goal.invariant-loop-s
+invariant-loop-s l =     (l.s ≤ l.n) × (l.initial.s.bits < 2 ^ 64)
+    × Found l.s (λ t. true) (λ t. eqb (get_or l.outcomes t 0) l.outcome) l.initial.s.bits
+
+abbrev pub decreases-loop-s : goal.decreases-loop-s
+decreases-loop-s l = l.n - l.s

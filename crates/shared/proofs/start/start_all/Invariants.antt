@@ -1,0 +1,15 @@
+-- `start_all` meets its contract: before each turn the settings below s are started.
+use mathlib.Core.Path.{◌≡◌, sym, ◌∙◌}
+use Prim.Native.Nat.{◌-◌, ◌≤◌}
+use native.Mathlib.Omega.{arith}
+use native.Mathlib.Numerals.{add-one}
+use borrow.Author.Rules.{rules}
+use Rattle.shared.specs.Lent.{tally}
+use Rattle.shared.proofs.Starting.{StartedBelow, none_started, one_more, all_started}
+use Rattle.shared.proofs.start.start_all.Given as goal
+
+abbrev pub invariant-loop-s : goal.invariant-loop-s
+invariant-loop-s l = (l.s ≤ l.n) × StartedBelow l.n l.set l.s (tally l.initial.steps l.steps l.initial.s)
+
+abbrev pub decreases-loop-s : goal.decreases-loop-s
+decreases-loop-s l = l.n - l.s

@@ -1,0 +1,15 @@
+-- `refuse`: the line fits its space, and what is said is the line.
+use mathlib.Core.Path.{sym}
+use native.Mathlib.Omega.{arith}
+use lib.Seq.{length-take-le}
+use borrow.Author.Rules.{rules}
+use Rattle.streams.proofs.Line.{front}
+use Rattle.streams.proofs.refuse.Goals as goal
+
+pub slice_bounds-say-end : goal.slice_bounds-say-end
+slice_bounds-say-end c =
+    let line = c.put_refusal-end in
+    sym (length-take-le _ _ (omega (arith, line.ensures.fits, line.ensures.next_is, line.auto.0)))
+
+pub say-requires : goal.say-requires
+say-requires c = front _ _ c.put_refusal-end.ensures
