@@ -33,7 +33,7 @@ caught_in C x l E S K = world (update S (ctx (catch_ctx C l) E K) x (extract l))
 last_skip : {N b : ℕ} {C : Settings} {X Y : World} → Vimp N b ⇓VS C X skip Y → Y ≡ X
 last_skip VS-SKIP = refl
 
-last_assign : {N b : ℕ} {C : Settings} {X Y : World} {x : ℕ} {a : Arithmetic Condition} → Vimp N b ⇓VS C X (assign x a) Y
+last_assign : {N b : ℕ} {C : Settings} {X : World} {x : ℕ} {a : Arithmetic Condition} {Y : World} → Vimp N b ⇓VS C X (assign x a) Y
     → (n : Varied ℤ) × VA⇓ N X.store (now C X) a n × (Y ≡ world (update X.store (now C X) x n) X.errors X.counts)
 last_assign (VS-ASSN {n} d) = (n, d, refl)
 
@@ -73,7 +73,7 @@ data Reached (N b : ℕ) (C : Settings) (X : World) (s : Statement Condition) (Y
   entered : Sat N (now C (out_of b s C X)) → Vimp N b ⇓VS C (begun_in b s C X) s Y → Reached N b C X s Y
   passed : Unsat N (now C (out_of b s C X)) → out_of b s C X ≡ Y → Reached N b C X s Y
 
-last_v : {N b : ℕ} {C : Settings} {X Y : World} {s : Statement Condition} → Vimp N b ⇓V C X s Y → Reached N b C X s Y
+last_v : {N b : ℕ} {C : Settings} {X : World} {s : Statement Condition} {Y : World} → Vimp N b ⇓V C X s Y → Reached N b C X s Y
 last_v (V-SAT h d) = entered h d
 last_v (V-UNSAT h) = passed h refl
 
