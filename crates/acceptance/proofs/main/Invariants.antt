@@ -7,7 +7,7 @@ use borrow.Author.Rules.{rules}
 use Rattle.acceptance.proofs.main.Given as goal
 
 abbrev pub invariant-loop-at : goal.invariant-loop-at
-invariant-loop-at l = (l.k ≤ l.initial.k) × (l.n ≡ length l.input)
+invariant-loop-at l = (l.k ≤ l.at) × (l.n ≡ length l.input)
 
 abbrev pub decreases-loop-at : goal.decreases-loop-at
-decreases-loop-at l = l.n - l.initial.k
+decreases-loop-at l = l.n - l.at

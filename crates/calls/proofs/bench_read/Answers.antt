@@ -9,8 +9,8 @@ use Rattle.calls.proofs.bench_read.Goals as goal
 pub returns-then-answer-ne-ANSWER_LENGTH : goal.returns-then-answer-ne-ANSWER_LENGTH
 returns-then-answer-ne-ANSWER_LENGTH c =
     let args = c.args in
-    let space = args.answer.now in
-    let some = told_some args.text.now (length args.out.now) in
+    let space = args.answer-1.now in
+    let some = told_some args.text.now (length args.out-1.now) in
     record {
       told = some.0;
       by_grammar = some.1;

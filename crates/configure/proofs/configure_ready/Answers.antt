@@ -59,7 +59,7 @@ module _ (c : After-configured_size-size) where
 
   -- the tests and stores of lists, as `Written` has them
   abbrev out : List ℕ
-  out = start.args.out.now
+  out = start.args.out-1.now
 
   short : length out < 8 + 8 * c.configured_size-size.result → Configures (space_rows l s (length out)) l s out out (Refused SpaceShort)
   short h = written.short l acc s out start.args.shape.nodes nodes_are (omega (arith, size_is))

@@ -33,25 +33,25 @@ module _ (c : After-shared_run) where
   l = start.args.image.now
 
   abbrev lent : Tally
-  lent = tally start.args.outcomes.now start.args.codes.now start.args.steps.now
+  lent = tally start.args.outcomes-1.now start.args.codes-1.now start.args.steps-1.now
 
   abbrev left : Tally
   left = tally c.shared_run.new.1.1.1.1.0 c.shared_run.new.1.1.1.1.1.0 c.shared_run.new.1.1.1.1.1.1.0
 
-  outcomes_length : length left.outcomes ≡ settings l
+  outcomes_length : length left.outcomes-1 ≡ settings l
   unfolding blank
-  outcomes_length = c.shared_run.auto.1.1.1.1.0 ∙ ap (λ (T : Tally). length T.outcomes) start.pre.tally_is ∙ length-replicate (settings l) 0
+  outcomes_length = c.shared_run.auto.1.1.1.1.0 ∙ ap (λ (T : Tally). length T.outcomes-1) start.pre.tally_is ∙ length-replicate (settings l) 0
 
-  codes_length : length left.codes ≡ settings l
+  codes_length : length left.codes-1 ≡ settings l
   unfolding blank
-  codes_length = c.shared_run.auto.1.1.1.1.1.0 ∙ ap (λ (T : Tally). length T.codes) start.pre.tally_is ∙ length-replicate (settings l) _
+  codes_length = c.shared_run.auto.1.1.1.1.1.0 ∙ ap (λ (T : Tally). length T.codes-1) start.pre.tally_is ∙ length-replicate (settings l) _
 
-  steps_length : length left.steps ≡ settings l
+  steps_length : length left.steps-1 ≡ settings l
   unfolding blank
-  steps_length = c.shared_run.auto.1.1.1.1.1.1.0 ∙ ap (λ (T : Tally). length T.steps) start.pre.tally_is ∙ length-replicate (settings l) 0
+  steps_length = c.shared_run.auto.1.1.1.1.1.1.0 ∙ ap (λ (T : Tally). length T.steps-1) start.pre.tally_is ∙ length-replicate (settings l) 0
 
   told : {r : SharedRun} → c.shared_run.result ≡ r
-      → SharedRuns (shared_rows l start.args.set start.args.budget start.args.store.now lent) l start.args.set start.args.budget start.args.store.now lent c.shared_run.new.1.1.1.0 left r
+      → SharedRuns (shared_rows l start.args.set start.args.budget start.args.store-1.now lent) l start.args.set start.args.budget start.args.store-1.now lent c.shared_run.new.1.1.1.0 left r
   told e = rw e at c.shared_run.ensures
 
 

@@ -55,7 +55,7 @@ pub put-line-requires : goal.put-line-requires
 put-line-requires c =
     let first = word c.before.before.before.before.before in
     let pre = (start first).pre in
-    omega (arith, pre.fits, long pre.shaped, first.put.ensures.next_is, kept first.put.ensures, c.put_decimal-count.ensures.next_is, kept c.put_decimal-count.ensures)
+    omega (arith, pre.fits, long pre.shaped, first.put-word.ensures.next_is, kept first.put-word.ensures, c.put_decimal-count.ensures.next_is, kept c.put_decimal-count.ensures)
 
 pub list_node-end-requires : goal.list_node-end-requires
 list_node-end-requires c =
@@ -70,11 +70,11 @@ list_node-end-requires c =
         arith,
         pre.fits,
         long pre.shaped,
-        first.put.ensures.next_is,
-        second.put-decimal.ensures.next_is,
+        first.put-word.ensures.next_is,
+        second.put_decimal-count.ensures.next_is,
         c.put-line.ensures.next_is,
-        kept first.put.ensures,
-        kept second.put-decimal.ensures,
+        kept first.put-word.ensures,
+        kept second.put_decimal-count.ensures,
         kept c.put-line.ensures,
       );
     }
@@ -89,13 +89,13 @@ put-requires c =
       arith,
       pre.fits,
       long pre.shaped,
-      first.put.ensures.next_is,
-      second.put-decimal.ensures.next_is,
-      third.put2.ensures.next_is,
+      first.put-word.ensures.next_is,
+      second.put_decimal-count.ensures.next_is,
+      third.put-line.ensures.next_is,
       c.list_node-end.ensures.next_is,
-      kept first.put.ensures,
-      kept second.put-decimal.ensures,
-      kept third.put2.ensures,
+      kept first.put-word.ensures,
+      kept second.put_decimal-count.ensures,
+      kept third.put-line.ensures,
       kept c.list_node-end.ensures,
     )
 
@@ -105,4 +105,4 @@ returns c =
     let second = count third in
     let first = word second in
     same (parts (start first).pre.shaped)
-    (then first.put.ensures (then second.put-decimal.ensures (then third.put2.ensures (then c.list_node-end.ensures c.put.ensures))))
+    (then first.put-word.ensures (then second.put_decimal-count.ensures (then third.put-line.ensures (then c.list_node-end.ensures c.put.ensures))))

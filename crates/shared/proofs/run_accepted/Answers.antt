@@ -89,8 +89,8 @@ module _ (c : After-exact) where
   abbrev from : Start
   from = start passed.before.before
 
-  is_exact : c.exact.result ≡ exact (settings (l from)) from.args.store.now (lent from)
-  is_exact = entry.exact_told (shifted from) from.args.store.now (lent from) c.exact.ensures
+  is_exact : c.exact.result ≡ exact (settings (l from)) from.args.store-1.now (lent from)
+  is_exact = entry.exact_told (shifted from) from.args.store-1.now (lent from) c.exact.ensures
 
 
 pub returns-then-not-is_empty : goal.returns-then-not-is_empty
@@ -101,7 +101,7 @@ returns-then-budget-gt-LARGEST_BUDGET c = entry.over_budget (l (start c.before.b
 
 pub returns-then-not-exact : goal.returns-then-not-exact
 returns-then-not-exact c =
-    entry.wrong_length (l (from c.before.before)) _ _ _ (lent (from c.before.before)) (not_beyond (passed c.before.before).before) (passed c.before.before).if2.false
+    entry.wrong_length (l (from c.before.before)) _ _ _ (lent (from c.before.before)) (not_beyond (passed c.before.before).before) (passed c.before.before).if-budget-gt-LARGEST_BUDGET.false
     (sym (is_exact c.before.before) ∙ not_true _ c.if-not-exact.true-raw)
 
 -- every test is passed
@@ -115,12 +115,12 @@ module _ (c : Else-not-exact) where
 
 pub returns : goal.returns
 returns c =
-    entry.all_passed (l (from c.before.before.before.before.before.before.before.before.before.before.before.before.before)) _ _ _ (lent (from c.before.before.before.before.before.before.before.before.before.before.before.before.before)) (not_beyond (passed c.before.before.before.before.before.before.before.before.before.before.before.before.before).before) (passed c.before.before.before.before.before.before.before.before.before.before.before.before.before).if2.false (all_exact c.before.before.before.before.before.before.before.before.before.before.before.before)
+    entry.all_passed (l (from c.before.before.before.before.before.before.before.before.before.before.before.before.before)) _ _ _ (lent (from c.before.before.before.before.before.before.before.before.before.before.before.before.before)) (not_beyond (passed c.before.before.before.before.before.before.before.before.before.before.before.before.before).before) (passed c.before.before.before.before.before.before.before.before.before.before.before.before.before).if-budget-gt-LARGEST_BUDGET.false (all_exact c.before.before.before.before.before.before.before.before.before.before.before.before)
     {T' = tally _ _ _} c.run_lent-ends.ensures
 
 pub run_lent-ends-requires : goal.run_lent-ends-requires
 run_lent-ends-requires c =
-    entry.carried {T = tally _ _ _} (from c.before.before.before.before.before.before).requires.0 (from c.before.before.before.before.before.before).requires.1 (not_beyond (passed c.before.before.before.before.before.before).before) (passed c.before.before.before.before.before.before).if2.false (all_exact c.before.before.before.before.before)
+    entry.carried {T = tally _ _ _} (from c.before.before.before.before.before.before).requires.0 (from c.before.before.before.before.before.before).requires.1 (not_beyond (passed c.before.before.before.before.before.before).before) (passed c.before.before.before.before.before.before).if-budget-gt-LARGEST_BUDGET.false (all_exact c.before.before.before.before.before)
 
 pub all_settings-all-requires : goal.all_settings-all-requires
 all_settings-all-requires c = few_options c.before.before.before.before

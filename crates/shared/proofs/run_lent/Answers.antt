@@ -43,7 +43,7 @@ pub run-visits-requires : goal.run-visits-requires
 run-visits-requires c =
     let at : tie.After-start-all = c.before.before.before.before.before.before.before.before.before.before.before.before in (
       root_is (start at).requires,
-      can_run (start at).requires {T' = tally _ _ _} at.start-all.ensures at.before.before.before.before.condition_sets.ensures.sets_are,
+      can_run (start at).requires {T' = tally _ _ _} at.start-all.ensures at.before.before.before.before.condition_sets-sets.ensures.sets_are,
     )
 
 pub ended-fault-requires : goal.ended-fault-requires

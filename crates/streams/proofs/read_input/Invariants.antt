@@ -9,7 +9,7 @@ use borrow.Rule.Slice.PartMut.{put_mid, same_len_mid, mid_len}
 use Rattle.streams.proofs.read_input.Given as goal
 
 abbrev pub invariant-loop-done : goal.invariant-loop-done
-invariant-loop-done l = (l.done ≤ length l.initial.done) × (length l.initial.done ≡ length l.initial.space)
+invariant-loop-done l = (l.done ≤ length l.space) × (length l.space ≡ length l.initial.space)
 
 abbrev pub decreases-loop-done : goal.decreases-loop-done
-decreases-loop-done l = length l.initial.done - l.done
+decreases-loop-done l = length l.space - l.done

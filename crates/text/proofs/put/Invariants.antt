@@ -9,7 +9,7 @@ use Rattle.text.proofs.Putting.{one_more}
 use Rattle.text.proofs.put.Given as goal
 
 abbrev pub invariant-loop-i : goal.invariant-loop-i
-invariant-loop-i l = (l.i-end ≤ length l.at) × (length l.i ≡ length l.initial.out) × (l.i ≡ sets l.initial.out l.out (take l.i-end l.at))
+invariant-loop-i l = (l.i ≤ length l.text) × (length l.out ≡ length l.initial.out) × (l.out ≡ sets l.initial.out l.at (take l.i l.text))
 
 abbrev pub decreases-loop-i : goal.decreases-loop-i
-decreases-loop-i l = length l.at - l.i-end
+decreases-loop-i l = length l.text - l.i

@@ -19,9 +19,9 @@ use Rattle.acceptance.specs.Theorem.Same.{every_next}
 use Rattle.acceptance.proofs.compare.all_hold.Given as goal
 
 abbrev pub invariant-loop-s : goal.invariant-loop-s
-invariant-loop-s l =     (l.s-end ≤ l.good) × (l.good ≡ length l.outcomes) × (l.initial.s ≤ l.s-end * 4294967296)
-    × (l.initial.s ≡ total l.s-end (λ t. get_or l.steps t 0))
-    × (l.s ≡ every l.s-end (λ t. setting_holds l.image l.set.bits l.budget l.visits t (progress (tally l.outcomes l.codes l.steps) t) (part l.store t)))
+invariant-loop-s l =     (l.s ≤ l.s-end) × (l.s-end ≡ length l.outcomes) × (l.sum ≤ l.s * 4294967296)
+    × (l.sum ≡ total l.s (λ t. get_or l.steps t 0))
+    × (l.good ≡ every l.s (λ t. setting_holds l.image l.set.bits l.budget l.visits t (progress (tally l.outcomes l.codes l.steps) t) (part l.store t)))
 
 abbrev pub decreases-loop-s : goal.decreases-loop-s
-decreases-loop-s l = l.good - l.s-end
+decreases-loop-s l = l.s-end - l.s

@@ -33,10 +33,10 @@ module _ (c : After-shared_run) where
   l = start.args.image.now
 
   abbrev n : ℕ
-  n = length start.args.outcomes.now
+  n = length start.args.outcomes-1.now
 
   abbrev lent : Tally
-  lent = tally start.args.outcomes.now start.args.codes.now start.args.steps.now
+  lent = tally start.args.outcomes-1.now start.args.codes-1.now start.args.steps-1.now
 
   abbrev left : Tally
   left = tally c.shared_run.new.1.1.1.1.0 c.shared_run.new.1.1.1.1.1.0 c.shared_run.new.1.1.1.1.1.1.0
@@ -47,13 +47,13 @@ module _ (c : After-shared_run) where
   store_length : length c.shared_run.new.1.1.1.0 ≡ n * 16
   store_length = c.shared_run.auto.1.1.1.0 ∙ filled.fill.kept.1.0 ∙ start.pre.store_is
 
-  outcomes_length : length left.outcomes ≡ n
+  outcomes_length : length left.outcomes-1 ≡ n
   outcomes_length = c.shared_run.auto.1.1.1.1.0
 
-  codes_length : length left.codes ≡ n
+  codes_length : length left.codes-1 ≡ n
   codes_length = c.shared_run.auto.1.1.1.1.1.0 ∙ start.pre.codes_are
 
-  steps_length : length left.steps ≡ n
+  steps_length : length left.steps-1 ≡ n
   steps_length = c.shared_run.auto.1.1.1.1.1.1.0 ∙ start.pre.steps_are
 
 

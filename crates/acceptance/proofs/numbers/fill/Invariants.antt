@@ -13,7 +13,7 @@ use Rattle.acceptance.specs.Inner.Comparing.{first, starts}
 use Rattle.acceptance.proofs.numbers.fill.Given as goal
 
 abbrev pub invariant-loop-v : goal.invariant-loop-v
-invariant-loop-v l =     (l.v-end ≤ l.initial.v) × (l.initial.v ≡ length l.initial.numbers) × (length l.v ≡ length l.initial.numbers) × (take l.v-end l.v ≡ starts l.at l.v-end)
+invariant-loop-v l =     (l.v ≤ l.v-end) × (l.v-end ≡ length l.initial.numbers) × (length l.numbers ≡ length l.initial.numbers) × (take l.v l.numbers ≡ starts l.at l.v)
 
 abbrev pub decreases-loop-v : goal.decreases-loop-v
-decreases-loop-v l = l.initial.v - l.v-end
+decreases-loop-v l = l.v-end - l.v

@@ -14,7 +14,7 @@ use borrow.Author.Rules.{rules}
 use Rattle.acceptance.proofs.numbers.same.Given as goal
 
 abbrev pub invariant-loop-v : goal.invariant-loop-v
-invariant-loop-v l = (l.v-end ≤ l.v) × (l.v ≡ length l.a) × (length l.a ≡ length l.b) × (every l.v-end (same_at l.a l.b) ≡ true)
+invariant-loop-v l = (l.v ≤ l.v-end) × (l.v-end ≡ length l.a) × (length l.a ≡ length l.b) × (every l.v (same_at l.a l.b) ≡ true)
 
 abbrev pub decreases-loop-v : goal.decreases-loop-v
-decreases-loop-v l = l.v - l.v-end
+decreases-loop-v l = l.v-end - l.v

@@ -64,8 +64,8 @@ pub loop-n-preserved : goal.loop-n-preserved
 loop-n-preserved c =
     let loop = c.loop-n in (
       omega arith,
-      length-set loop.sizes loop.n c.size_of.result ∙ loop.invariant.1,
-      more _ _ loop.n c.size_of.result loop.sizes (omega (arith, loop.invariant.1, in_table c.before)) loop.invariant.2 c.size_of.ensures,
+      length-set loop.sizes-1 loop.n c.size_of.result ∙ loop.invariant.1,
+      more _ _ loop.n c.size_of.result loop.sizes-1 (omega (arith, loop.invariant.1, in_table c.before)) loop.invariant.2 c.size_of.ensures,
     )
 
 -- there is a last node, and it is in the table

@@ -64,8 +64,8 @@ module _ (c : After-node_at-node) where
   abbrev condition_sets : List ℕ
   condition_sets = start.args.sets.now
 
-  is_node : c.Node-at.result ≡ node l n
-  is_node = c.Node-at.ensures
+  is_node : c.node_at-node.result ≡ node l n
+  is_node = c.node_at-node.ensures
 
   low : Lower n (node l n)
   low = lower (header l).conditions n (node l n) (start.pre.ready.accepted.nodes_fit n start.pre.node_below)
@@ -133,23 +133,23 @@ module _ (c : After-layout-digits) where
   no_choice : is_choice (node (l here) (n here)).kind ≡ false
   no_choice = ap (λ ν. is_choice ν.kind) (sym (is_node here)) ∙ sym c.is_choice.ensures ∙ c.if-is_choice.false
 
-  is_a : here.Node-at.result.a ≡ (node (l here) (n here)).a
+  is_a : here.node_at-node.result.a ≡ (node (l here) (n here)).a
   is_a = ap (λ ν. ν.a) (is_node here)
 
-  is_b : here.Node-at.result.b ≡ (node (l here) (n here)).b
+  is_b : here.node_at-node.result.b ≡ (node (l here) (n here)).b
   is_b = ap (λ ν. ν.b) (is_node here)
 
-  is_c : here.Node-at.result.c ≡ (node (l here) (n here)).c
+  is_c : here.node_at-node.result.c ≡ (node (l here) (n here)).c
   is_c = ap (λ ν. ν.c) (is_node here)
 
   -- a child that a field names has its size
-  a_there : names_node (a_digit c.layout-digits.result) ≡ true → here.Node-at.result.a < length (sizes here)
+  a_there : names_node (a_digit c.layout-digits.result) ≡ true → here.node_at-node.result.a < length (sizes here)
   a_there names = omega (arith, is_a, (low here).a_lower (ap (λ d. names_node (a_digit d)) (sym digits_are) ∙ names), (start here).pre.kept)
 
-  b_there : names_node (b_digit c.layout-digits.result) ≡ true → here.Node-at.result.b < length (sizes here)
+  b_there : names_node (b_digit c.layout-digits.result) ≡ true → here.node_at-node.result.b < length (sizes here)
   b_there names = omega (arith, is_b, (low here).b_lower (ap (λ d. names_node (b_digit d)) (sym digits_are) ∙ names), (start here).pre.kept)
 
-  c_there : names_node (c_digit c.layout-digits.result) ≡ true → here.Node-at.result.c < length (sizes here)
+  c_there : names_node (c_digit c.layout-digits.result) ≡ true → here.node_at-node.result.c < length (sizes here)
   c_there names = omega (arith, is_c, (low here).c_lower (ap (λ d. names_node (c_digit d)) (sym digits_are) ∙ names), (start here).pre.kept)
 
 

@@ -15,7 +15,7 @@ use Rattle.hall.specs.Theorem.Fits.{variable_length}
 use Rattle.hall.proofs.tell.put_variables.Given as goal
 
 abbrev pub invariant-loop-v : goal.invariant-loop-v
-invariant-loop-v l = (l.v ≤ 16) × (l.initial.v ≤ l.out + l.v * 16) × (length l.end ≡ length l.initial.out) × Puts (variable_lines l.v l.at) l.out l.initial.out l.end l.initial.v
+invariant-loop-v l = (l.v ≤ 16) × (l.end ≤ l.at + l.v * 16) × (length l.out ≡ length l.initial.out) × Puts (variable_lines l.v l.numbers) l.at l.initial.out l.out l.end
 
 abbrev pub decreases-loop-v : goal.decreases-loop-v
 decreases-loop-v l = 16 - l.v

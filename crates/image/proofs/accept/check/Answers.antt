@@ -59,7 +59,7 @@ past-2 : (c : Else-edition_wrong) → rest 0 (image (head-2 c)) ≡ rest 2 (imag
 unfolding check_rows
 past-2 c =
     past-1 (head-2 c).before
-    ∙ judge_passes _ _ _ (rw (← (head-2 c).header_at.ensures, ← c.edition_wrong.ensures) c.if-edition_wrong.false)
+    ∙ judge_passes _ _ _ (rw (← (head-2 c).header_at-h.ensures, ← c.edition_wrong.ensures) c.if-edition_wrong.false)
 
 abbrev head-3 : Else-counts_wrong → After-header_at-h
 head-3 c = head-2 c.before.before
@@ -68,9 +68,9 @@ past-3 : (c : Else-counts_wrong) → rest 0 (image (head-3 c)) ≡ rest 3 (image
 unfolding check_rows
 past-3 c =
     past-2 c.before.before
-    ∙ judge_passes _ _ _ (rw (← (head-3 c).header_at.ensures, ← c.counts_wrong.ensures) c.if-counts_wrong.false)
+    ∙ judge_passes _ _ _ (rw (← (head-3 c).header_at-h.ensures, ← c.counts_wrong.ensures) c.if-counts_wrong.false)
 
-ranges : (c : Else-counts_wrong) → InRange (head-3 c).header_at.result
+ranges : (c : Else-counts_wrong) → InRange (head-3 c).header_at-h.result
 ranges c = in_range _ (sym c.counts_wrong.ensures ∙ c.if-counts_wrong.false)
 
 abbrev head-4 : Else-image-h → After-header_at-h
@@ -80,7 +80,7 @@ past-4 : (c : Else-image-h) → rest 0 (image (head-4 c)) ≡ rest 4 (image (hea
 unfolding check_rows
 past-4 c =
     past-3 c.before.before.before
-    ∙ judge_passes _ _ _ (rw (← (head-4 c).header_at.ensures) (length_right _ _ c.if-image-h.false))
+    ∙ judge_passes _ _ _ (rw (← (head-4 c).header_at-h.ensures) (length_right _ _ c.if-image-h.false))
 
 -- ---- the needs
 
@@ -100,7 +100,7 @@ unfolding check_rows
 returns-then-counts_wrong c =
     sym
     (past-2 c.before.before.before
-    ∙ judge_fails _ _ _ (rw (← (head-2 c.before.before.before).header_at.ensures, ← c.counts_wrong.ensures) c.if-counts_wrong.true))
+    ∙ judge_fails _ _ _ (rw (← (head-2 c.before.before.before).header_at-h.ensures, ← c.counts_wrong.ensures) c.if-counts_wrong.true))
 
 pub overflow_mul-h : goal.overflow_mul-h
 overflow_mul-h c = omega (arith, (ranges c.before.before).few_conditions)
@@ -117,12 +117,12 @@ overflow_add-h-2 c = omega (arith, ranges c.before.before.before)
 pub returns-then-image-h : goal.returns-then-image-h
 unfolding check_rows length_wrong
 returns-then-image-h c =
-    sym (past-3 c.before.before.before.before ∙ judge_fails _ _ _ (rw (← (head-3 c.before.before.before.before).header_at.ensures, ne_eqb _ _ c.if-image-h.true)))
+    sym (past-3 c.before.before.before.before ∙ judge_fails _ _ _ (rw (← (head-3 c.before.before.before.before).header_at-h.ensures, ne_eqb _ _ c.if-image-h.true)))
 
 pub check_records-requires : goal.check_records-requires
 unfolding shape_of
 check_records-requires c =
-    let is = (head-4 c.before).header_at.ensures in
+    let is = (head-4 c.before).header_at-h.ensures in
     let counts = ranges c.before.before.before.before in
     record {
       shape_is = ap shape is;
@@ -136,4 +136,4 @@ unfolding shape_of
 returns c =
     let head = head-4 c.before.before in
     c.check_records.ensures
-    ∙ ap (λ h. judge (drop 4 (check_rows (image head))) (shape h)) head.header_at.ensures ∙ sym (past-4 c.before.before)
+    ∙ ap (λ h. judge (drop 4 (check_rows (image head))) (shape h)) head.header_at-h.ensures ∙ sym (past-4 c.before.before)

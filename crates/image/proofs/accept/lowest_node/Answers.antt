@@ -14,7 +14,7 @@ loop-n-init c = begins
 pub returns-then-not-node_fits : goal.returns-then-not-node_fits
 returns-then-not-node_fits c =
     finds c.loop-n.invariant (omega arith)
-    (rw (← c.Node-at.ensures, ← c.node_fits.ensures) c.if-not-node_fits.true-raw)
+    (rw (← c.node_at.ensures, ← c.node_fits.ensures) c.if-not-node_fits.true-raw)
 
 pub overflow_add-n : goal.overflow_add-n
 overflow_add-n c = omega arith
@@ -25,7 +25,7 @@ loop-n-smaller c = omega arith
 pub loop-n-preserved : goal.loop-n-preserved
 loop-n-preserved c =
     goes_on c.loop-n.invariant (omega arith)
-    (rw (← c.Node-at.ensures, ← c.node_fits.ensures) c.if-not-node_fits.false-raw)
+    (rw (← c.node_at.ensures, ← c.node_fits.ensures) c.if-not-node_fits.false-raw)
 
 pub returns : goal.returns
 returns c = ends c.loop-n.invariant (omega arith)

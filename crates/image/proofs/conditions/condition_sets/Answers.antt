@@ -93,7 +93,7 @@ pub loop-k-preserved : goal.loop-k-preserved
 loop-k-preserved c =
     let loop = c.loop-k in (
       omega arith,
-      more _ loop.sets loop.k c.set_of.result.bits (below-256 c.before) loop.invariant.1 c.set_of.ensures,
+      more _ loop.sets-1 loop.k c.set_of.result.bits (below-256 c.before) loop.invariant.1 c.set_of.ensures,
     )
 
 pub returns : goal.returns

@@ -23,8 +23,8 @@ Start = lts.Start tie.the-claims reads.Pre reads.Post
 abbrev start : After-layout-digits → Start
 start c = c.before.before.before
 
-names-lower : (c : After-layout-digits) → Lower c.args.n c.Node-at.result
-names-lower c = rw c.Node-at.ensures (lower _ _ _ c.requires.1.1)
+names-lower : (c : After-layout-digits) → Lower c.args.n c.node_at-node.result
+names-lower c = rw c.node_at-node.ensures (lower _ _ _ c.requires.1.1)
 
 inside : (c : After-layout-digits) {m : ℕ} → m < (start c).args.n
     → 8 + 4 * (start c).args.conditions + 8 * m + 8 ≤ length (start c).args.image.now

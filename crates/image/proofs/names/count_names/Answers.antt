@@ -24,7 +24,7 @@ pub count_node-requires : goal.count_node-requires
 count_node-requires c =
     let n = c.loop-n.n in
     let low : Lower n (node c.args.image.now n) = lower _ _ _ (c.requires.0.fits n (omega arith)) in (
-      rw c.Node-at.ensures (lower_more (omega arith) low),
+      rw c.node_at.ensures (lower_more (omega arith) low),
       λ k. omega (arith, c.loop-n.invariant.1.1 k, names_le c.args.image.now n k),
     )
 
@@ -41,7 +41,7 @@ loop-n-preserved c =
       omega arith,
       (
         counted.auto.0 ∙ c.loop-n.invariant.1.0,
-        λ k. rw (add-one, ← c.loop-n.invariant.1.1 k, ← c.Node-at.ensures) (counted.ensures k),
+        λ k. rw (add-one, ← c.loop-n.invariant.1.1 k, ← c.node_at.ensures) (counted.ensures k),
       ),
     )
 

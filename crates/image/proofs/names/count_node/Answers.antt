@@ -41,7 +41,7 @@ count_slot-requires c names =
 pub count_slot-requires-2 : goal.count_slot-requires-2
 count_slot-requires-2 c names =
     let st = start (before-b c) in
-    let digits = (before-b c).layout in
+    let digits = (before-b c).layout-digits in
     let first = c.count_slot in
     let b = st.args.node.b in (
       omega (arith, first.auto.0, st.pre.0.b_lower (rw digits.ensures at names)),
@@ -51,7 +51,7 @@ count_slot-requires-2 c names =
 pub count_slot-requires-3 : goal.count_slot-requires-3
 count_slot-requires-3 c names =
     let st = start (before_c c) in
-    let digits = (before_c c).layout in
+    let digits = (before_c c).layout-digits in
     let first = c.count_slot in
     let second = c.count_slot-2 in
     let last = st.args.node.c in

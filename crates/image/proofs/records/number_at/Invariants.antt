@@ -9,7 +9,7 @@ use Rattle.image.proofs.Numbers.{number_lt}
 use Rattle.image.proofs.records.number_at.Given as goal
 
 abbrev pub invariant-loop-i : goal.invariant-loop-i
-invariant-loop-i l = (l.i ≤ l.n) × (l.initial.i ≡ number_at l.image l.at l.i)
+invariant-loop-i l = (l.i ≤ l.n) × (l.v ≡ number_at l.image l.at l.i)
 
 abbrev pub decreases-loop-i : goal.decreases-loop-i
 decreases-loop-i l = l.n - l.i

@@ -35,7 +35,7 @@ module _ (text out : List ℕ) where
 pub returns-then-out-n : goal.returns-then-out-n
 returns-then-out-n c =
     let args = c.args in
-    short (take args.n args.text.now) args.out.now (length-take-le args.n args.text.now c.requires) c.if-out-n.true
+    short (take args.n args.text.now) args.out-1.now (length-take-le args.n args.text.now c.requires) c.if-out-n.true
 
 pub slice_bounds-put-end : goal.slice_bounds-put-end
 slice_bounds-put-end c = sym (length-take-le c.before.before.before.before.before.args.n c.before.before.before.before.before.args.text.now c.before.before.before.before.before.requires)
@@ -46,4 +46,4 @@ put-end-requires c = omega (arith, length-take-le c.before.before.before.before.
 pub returns : goal.returns
 returns c =
     let args = c.before.before.before.before.before.before.before.before.args in
-    stored (take args.n args.text.now) args.out.now (omega (arith, length-take-le args.n args.text.now c.before.before.before.before.before.before.before.before.requires, c.if1.false)) c.put-end.ensures
+    stored (take args.n args.text.now) args.out-1.now (omega (arith, length-take-le args.n args.text.now c.before.before.before.before.before.before.before.before.requires, c.if1.false)) c.put-end.ensures

@@ -17,7 +17,7 @@ use Rattle.lines.specs.Theorem.Lengths.{line_length}
 use Rattle.lines.proofs.line.put_lines.Given as goal
 
 abbrev pub invariant-loop-s : goal.invariant-loop-s
-invariant-loop-s l = (l.s-end ≤ length l.out) × (l.s ≤ l.s-end * 32) × (length l.initial.s ≡ length l.initial.out) × Puts (tallied l.s-end (tally l.out l.outcomes l.codes)) 0 l.initial.out l.initial.s l.s
+invariant-loop-s l = (l.s ≤ length l.outcomes) × (l.at ≤ l.s * 32) × (length l.out ≡ length l.initial.out) × Puts (tallied l.s (tally l.outcomes l.codes l.steps)) 0 l.initial.out l.out l.at
 
 abbrev pub decreases-loop-s : goal.decreases-loop-s
-decreases-loop-s l = length l.out - l.s-end
+decreases-loop-s l = length l.outcomes - l.s

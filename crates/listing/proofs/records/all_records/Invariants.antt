@@ -9,7 +9,7 @@ use Rattle.listing.proofs.Counts.{more}
 use Rattle.listing.proofs.records.all_records.Given as goal
 
 abbrev pub invariant-loop-n : goal.invariant-loop-n
-invariant-loop-n l = (l.n ≤ l.nodes) × (length l.initial.n ≡ 1024) × RecordsOf l.image l.n l.initial.n
+invariant-loop-n l = (l.n ≤ l.nodes) × (length l.records ≡ 1024) × RecordsOf l.image l.n l.records
 
 abbrev pub decreases-loop-n : goal.decreases-loop-n
 decreases-loop-n l = l.nodes - l.n

@@ -53,12 +53,12 @@ loop-k-preserved c =
     let l : List ℕ = c.args.image.now in
     let loop = c.loop-k in
     let w = c.condition_size.result in
-    let long : length loop.sizes ≡ 256 = loop.invariant.1 in
-    let same = length-set loop.sizes loop.k w in (
+    let long : length loop.sizes-1 ≡ 256 = loop.invariant.1 in
+    let same = length-set loop.sizes-1 loop.k w in (
       omega arith,
       same ∙ long,
       record {
-        right = more (λ k. capped (sizeᶜ (condition l k))) loop.k w loop.sizes (omega (arith, long, in_table c.before)) loop.invariant.2.right c.condition_size.ensures;
+        right = more (λ k. capped (sizeᶜ (condition l k))) loop.k w loop.sizes-1 (omega (arith, long, in_table c.before)) loop.invariant.2.right c.condition_size.ensures;
         kept = omega (arith, same, long, in_table c.before);
       },
     )

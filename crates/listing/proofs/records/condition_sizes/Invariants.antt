@@ -11,7 +11,7 @@ use Rattle.listing.proofs.Counts.{more}
 use Rattle.listing.proofs.records.condition_sizes.Given as goal
 
 abbrev pub invariant-loop-k : goal.invariant-loop-k
-invariant-loop-k l = (l.k ≤ l.conditions) × (length l.initial.k ≡ 256) × SizesOf l.image l.k l.initial.k
+invariant-loop-k l = (l.k ≤ l.conditions) × (length l.sizes ≡ 256) × SizesOf l.image l.k l.sizes
 
 abbrev pub decreases-loop-k : goal.decreases-loop-k
 decreases-loop-k l = l.conditions - l.k

@@ -25,15 +25,15 @@ node_at-node-requires c =
     (pre.good.conditions_are, omega (arith, pre.good.conditions_are, pre.good.accepted.length_is, pre.node_below))
 
 pub field_records-in_a-requires : goal.field_records-in_a-requires
-field_records-in_a-requires c = field_a c.requires c.Node-at.ensures c.layout-digits.ensures
+field_records-in_a-requires c = field_a c.requires c.node_at-node.ensures c.layout-digits.ensures
 
 pub field_records-in_b-requires : goal.field_records-in_b-requires
 field_records-in_b-requires c =
-    field_b c.requires c.Node-at.ensures c.layout-digits.ensures
+    field_b c.requires c.node_at-node.ensures c.layout-digits.ensures
 
 pub field_records-in_c-requires : goal.field_records-in_c-requires
 field_records-in_c-requires c =
-    field_c c.requires c.Node-at.ensures c.layout-digits.ensures
+    field_c c.requires c.node_at-node.ensures c.layout-digits.ensures
 
 -- all three fields are looked up
 module _ (c : After-field_records-in_c) where
@@ -54,7 +54,7 @@ module _ (c : After-field_records-in_c) where
 
   sums : (x ≤ 257) × (y ≤ 257) × (z ≤ 257) × (capped (x + y + z) ≡ capped (node_records start.args.image.now start.args.n))
   sums =
-      whole_count start.pre own.before.Node-at.ensures own.layout.ensures
+      whole_count start.pre own.before.node_at-node.ensures own.layout-digits.ensures
       c.field_records-in_a.ensures c.field_records-in_b.ensures c.field_records-in_c.ensures
 
 

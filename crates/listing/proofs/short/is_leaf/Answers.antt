@@ -6,4 +6,4 @@ use Rattle.listing.specs.Theorem.Short.{short_part}
 use Rattle.listing.proofs.short.is_leaf.Goals as goal
 
 pub returns : goal.returns
-returns c = ap (λ ν. ltb ν.kind 2) c.Node-at.ensures ∙ sym (short_part _ c.args.n c.requires.is_class)
+returns c = ap (λ ν. ltb ν.kind 2) c.node_at-node.ensures ∙ sym (short_part _ c.args.n c.requires.is_class)

@@ -37,24 +37,24 @@ module _ (c : After-node_at-node) where
   abbrev n : ℕ
   n = start.args.n
 
-  kind_is : c.Node-at.result.kind ≡ (node l n).kind
-  kind_is = ap (λ ν. ν.kind) c.Node-at.ensures
+  kind_is : c.node_at-node.result.kind ≡ (node l n).kind
+  kind_is = ap (λ ν. ν.kind) c.node_at-node.ensures
 
-  assigns : c.Node-at.result.kind ≡ 17 → Child l n 1 (node l n).a
+  assigns : c.node_at-node.result.kind ≡ 17 → Child l n 1 (node l n).a
   assigns e = assign_child l start.pre.good.accepted n start.pre.node_below (sym kind_is ∙ e)
 
-  throws : c.Node-at.result.kind ≡ 21 → Child l n 1 (node l n).a
+  throws : c.node_at-node.result.kind ≡ 21 → Child l n 1 (node l n).a
   throws e = throw_child l start.pre.good.accepted n start.pre.node_below (sym kind_is ∙ e)
 
-  held : shortᵃ (read l c.Node-at.result.a).arithmetic ≡ shortᵃ (read l (node l n).a).arithmetic
-  held = ap (λ (ν : Node). shortᵃ (read l ν.a).arithmetic) c.Node-at.ensures
+  held : shortᵃ (read l c.node_at-node.result.a).arithmetic ≡ shortᵃ (read l (node l n).a).arithmetic
+  held = ap (λ (ν : Node). shortᵃ (read l ν.a).arithmetic) c.node_at-node.ensures
 
 
 pub is_leaf-requires : goal.is_leaf-requires
-is_leaf-requires c = leaf c.Node-at.ensures (start c.before.before).pre (assigns c.before.before c.in-17.is)
+is_leaf-requires c = leaf c.node_at-node.ensures (start c.before.before).pre (assigns c.before.before c.in-17.is)
 
 pub is_leaf-requires-in-21 : goal.is_leaf-requires-in-21
-is_leaf-requires-in-21 c = leaf c.Node-at.ensures (start c.before.before).pre (throws c.before.before c.in-21.is)
+is_leaf-requires-in-21 c = leaf c.node_at-node.ensures (start c.before.before).pre (throws c.before.before c.in-21.is)
 
 pub returns-in-16 : goal.returns-in-16
 returns-in-16 c =

@@ -20,7 +20,7 @@ loop-n-init c = begins
 pub returns-then-is_choice : goal.returns-then-is_choice
 returns-then-is_choice c =
     finds c.loop-n.invariant (omega arith)
-    (asked _ _ true _ c.Node-at.ensures c.is_choice.ensures c.if-is_choice.true)
+    (asked _ _ true _ c.node_at.ensures c.is_choice.ensures c.if-is_choice.true)
 
 pub overflow_add-n : goal.overflow_add-n
 overflow_add-n c = omega arith
@@ -31,7 +31,7 @@ loop-n-smaller c = omega arith
 pub loop-n-preserved : goal.loop-n-preserved
 loop-n-preserved c =
     goes_on c.loop-n.invariant (omega arith)
-    (asked _ _ false _ c.Node-at.ensures c.is_choice.ensures c.if-is_choice.false)
+    (asked _ _ false _ c.node_at.ensures c.is_choice.ensures c.if-is_choice.false)
 
 pub returns : goal.returns
 returns c = ends c.loop-n.invariant (omega arith)

@@ -63,12 +63,12 @@ OfBoolean F t = F (boolean_uses t) (goal.boolean-at t) boolean.Post
 
 -- once the node is read
 arithmetic_here : (t : ℕ) (c : OfArithmetic arithmetic-lts.After-node_at t)
-    → (let a = c.args in At a.image.now a.conditions a.sets.now a.s a.n 1 a.numbers.now c.Node-at.result t)
+    → (let a = c.args in At a.image.now a.conditions a.sets.now a.s a.n 1 a.numbers.now c.node_at-node.result t)
 arithmetic_here t c =
-    record { evaluating = c.requires.1; is_node = c.Node-at.ensures; is_number = c.requires.0 }
+    record { evaluating = c.requires.1; is_node = c.node_at-node.ensures; is_number = c.requires.0 }
 
 -- the last arm is the choice
-is_4 : (t : ℕ) (c : OfArithmetic arithmetic-lts.At-match-rest t) → c.Node-at.result.kind ≡ 4
+is_4 : (t : ℕ) (c : OfArithmetic arithmetic-lts.At-match-rest t) → c.node_at-node.result.kind ≡ 4
 is_4 t c =
     omega (
       arith,
@@ -145,11 +145,11 @@ arithmetic-arithmetic-requires-in_default t c =
 -- ---- boolean: what it returns
 
 boolean_here : (t : ℕ) (c : OfBoolean boolean-lts.After-node_at t)
-    → (let a = c.args in At a.image.now a.conditions a.sets.now a.s a.n 2 a.numbers.now c.Node-at.result t)
+    → (let a = c.args in At a.image.now a.conditions a.sets.now a.s a.n 2 a.numbers.now c.node_at-node.result t)
 boolean_here t c =
-    record { evaluating = c.requires.1; is_node = c.Node-at.ensures; is_number = c.requires.0 }
+    record { evaluating = c.requires.1; is_node = c.node_at-node.ensures; is_number = c.requires.0 }
 
-is_13 : (t : ℕ) (c : OfBoolean boolean-lts.At-match-rest t) → c.Node-at.result.kind ≡ 13
+is_13 : (t : ℕ) (c : OfBoolean boolean-lts.At-match-rest t) → c.node_at-node.result.kind ≡ 13
 is_13 t c =
     omega (
       arith,

@@ -89,7 +89,7 @@ pub attempt-returns : goal.attempt-returns
 attempt-returns t c =
     let ran = was-taken.before.before.before.before.before in
     let a = ran.before.before.before.before.args in
-    arrives (handled_by a.node.variable (does a.budget a.s a.image.now a.node.b) ran.run.ensures (omega arith) was-taken.take.ensures) c.run.ensures
+    arrives (handled_by a.node.variable (does a.budget a.s a.image.now a.node.b) ran.run-r.ensures (omega arith) was-taken.take.ensures) c.run.ensures
 
 -- ---- repeat
 
@@ -148,15 +148,15 @@ repeat-returns t c =
 
 -- once the node is read
 run_here : (t : ℕ) (c : OfRun run-lts.After-node_at t)
-    → (let a = c.args in At a.image.now a.conditions a.sets.now a.s a.n 3 a.numbers.now c.Node-at.result a.n)
+    → (let a = c.args in At a.image.now a.conditions a.sets.now a.s a.n 3 a.numbers-1.now c.node_at-node.result a.n)
 run_here t c =
-    record { evaluating = c.requires.1.evaluating; is_node = c.Node-at.ensures; is_number = refl }
+    record { evaluating = c.requires.1.evaluating; is_node = c.node_at-node.ensures; is_number = refl }
 
 -- begun and live
 node_of : (t : ℕ) (c : OfRun run-lts.Else2 t)
     → (let read = c.before.before.before.before in
     let a = read.before.before.before.args in
-    At a.image.now a.conditions a.sets.now a.s a.n 3 a.numbers.now read.Node-at.result a.n)
+    At a.image.now a.conditions a.sets.now a.s a.n 3 a.numbers-1.now read.node_at-node.result a.n)
 node_of t c = run_here t c.before.before.before.before
 
 began : (t : ℕ) (c : OfRun run-lts.Else2 t)
@@ -167,7 +167,7 @@ alive : (t : ℕ) (c : OfRun run-lts.Else2 t) → c.begin-q.result.outcome ≡ 1
 alive t c = omega arith
 
 -- the last arm is the try
-is_22 : (t : ℕ) (c : OfRun run-lts.At-match-rest t) → c.Node-at.result.kind ≡ 22
+is_22 : (t : ℕ) (c : OfRun run-lts.At-match-rest t) → c.node_at-node.result.kind ≡ 22
 is_22 t c =
     let others = c.in_default.rest in
     last_kind (statement_kind (node_of t c.before) refl) others.0.0.0.0.0.1 others.0.0.0.0.1 others.0.0.0.1 others.0.0.1
@@ -188,7 +188,7 @@ pub run-returns-then-kind-eq-CHOICE : goal.run-returns-then-kind-eq-CHOICE
 run-returns-then-kind-eq-CHOICE t c =
     let a = c.args in
     arrives
-    (choice_does (run_here t c.before.before.before.before.before.before) a.budget c.if-kind-eq-CHOICE.true c.chosen-part.ensures (state_of a.p a.numbers.now))
+    (choice_does (run_here t c.before.before.before.before.before.before) a.budget c.if-kind-eq-CHOICE.true c.chosen-part.ensures (state_of a.p a.numbers-1.now))
     c.run.ensures
 
 pub run-begin-q-requires : goal.run-begin-q-requires
@@ -248,7 +248,7 @@ run-repeat-requires t c =
         evaluating = (call_a p 20 k refl).1;
         running = record { evaluating = body.1; proper = (began t c.before.before.before).proper };
         is_live = alive t c.before.before.before;
-        within = (charged (began t c.before.before.before) a.numbers.now (eq-eqb _ 1 (alive t c.before.before.before))).1;
+        within = (charged (began t c.before.before.before) a.numbers-1.now (eq-eqb _ 1 (alive t c.before.before.before))).1;
       },
     )
 
@@ -289,7 +289,7 @@ pub run-returns-in-18 : goal.run-returns-in-18
 run-returns-in-18 t c =
     let a = c.args in
     arrives
-    (ap (does a.budget a.s a.image.now c.Node-at.result.b)
+    (ap (does a.budget a.s a.image.now c.node_at-node.result.b)
     c.run-r.ensures.reaches
     ∙ sequence_does (node_of t c.before.before.before.before.before.before.before.before) a.budget (began t c.before.before.before.before.before.before.before.before) (alive t c.before.before.before.before.before.before.before.before) c.in-18.is)
     c.run-in-18.ensures

@@ -7,7 +7,7 @@ use Rattle.reading.proofs.Loops.{DigitsSoFar, digits_start, digits_no_digit, dig
 use Rattle.reading.proofs.number.read_digits.Given as goal
 
 abbrev pub invariant-loop-at : goal.invariant-loop-at
-invariant-loop-at l = DigitsSoFar l.text l.from l.n l.most l.initial.value l.value
+invariant-loop-at l = DigitsSoFar l.text l.from l.n l.most l.at l.value
 
 abbrev pub decreases-loop-at : goal.decreases-loop-at
-decreases-loop-at l = length l.text - l.initial.value
+decreases-loop-at l = length l.text - l.at

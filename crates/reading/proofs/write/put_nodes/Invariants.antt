@@ -7,7 +7,7 @@ use Rattle.reading.proofs.Imaging.{PutSoFar, wide_nodes, put_start, put_more, pu
 use Rattle.reading.proofs.write.put_nodes.Given as goal
 
 abbrev pub invariant-loop-i : goal.invariant-loop-i
-invariant-loop-i l = PutSoFar all_bytes l.initial.out l.out l.at l.nodes l.initial.i l.i
+invariant-loop-i l = PutSoFar all_bytes l.initial.out l.at l.nodes l.n l.out l.i
 
 abbrev pub decreases-loop-i : goal.decreases-loop-i
-decreases-loop-i l = l.nodes - l.i
+decreases-loop-i l = l.n - l.i

@@ -7,7 +7,7 @@ use Rattle.reading.proofs.Imaging.{PutSoFar, wide_records, put_start, put_more, 
 use Rattle.reading.proofs.write.put_records.Given as goal
 
 abbrev pub invariant-loop-i : goal.invariant-loop-i
-invariant-loop-i l = PutSoFar record_bytes l.initial.out l.out l.at l.records l.initial.i l.i
+invariant-loop-i l = PutSoFar record_bytes l.initial.out l.at l.records l.n l.out l.i
 
 abbrev pub decreases-loop-i : goal.decreases-loop-i
-decreases-loop-i l = l.records - l.i
+decreases-loop-i l = l.n - l.i

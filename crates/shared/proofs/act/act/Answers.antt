@@ -8,18 +8,18 @@ use Rattle.shared.proofs.act.act.Goals as goal
 pub returns-in-17 : goal.returns-in-17
 returns-in-17 c =
     let a = c.args in
-    arrives (assign_acts a.image.now a.node a.s a.p a.numbers.now c.in-17.is) c.assign.ensures
+    arrives (assign_acts a.image.now a.node a.s a.p a.numbers-1.now c.in-17.is) c.assign.ensures
 
 pub returns-in-21 : goal.returns-in-21
 returns-in-21 c =
     let a = c.before.before.before.before.before.args in
-    arrives (throw_acts a.image.now a.node a.s a.p a.numbers.now c.match.keys2) c.fault.ensures
+    arrives (throw_acts a.image.now a.node a.s a.p a.numbers-1.now c.match.keys2) c.fault.ensures
 
 pub returns-in_default : goal.returns-in_default
 returns-in_default c =
     let a = c.args in
     let others = c.in_default.rest in
-    arrives (take_acts a.image.now a.node a.s a.p a.numbers.now others.0.1 others.1) c.take.ensures
+    arrives (take_acts a.image.now a.node a.s a.p a.numbers-1.now others.0.1 others.1) c.take.ensures
 
 pub assign-requires : goal.assign-requires
 assign-requires c =

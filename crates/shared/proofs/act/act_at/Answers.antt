@@ -23,7 +23,7 @@ returns c =
     c.set_progress.ensures
     (arrives
     (ap₂ (λ p ns. acting st.args.image.now st.args.node st.args.s (state_of p ns)) c.progress_of-p.ensures
-    (part_is st.args.store.now st.args.plan.settings st.args.s every.lent.store_length st.requires.setting_below))
+    (part_is st.args.store-1.now st.args.plan.settings st.args.s every.lent.store_length st.requires.setting_below))
     c.act-q.ensures)
 
 pub act-q-requires : goal.act-q-requires

@@ -14,8 +14,8 @@ use Rattle.shared.proofs.Own.{still}
 use Rattle.shared.proofs.act.act_for.Given as goal
 
 abbrev pub invariant-loop-s : goal.invariant-loop-s
-invariant-loop-s l =     (l.s ≤ l.initial.codes) × Lent l.initial.codes l.initial.steps (tally l.steps l.n l.initial.s)
-    × Upto l.s (bit l.turn.on.bits) (acting l.image l.node) (own l.initial.store (tally l.store l.initial.outcomes l.outcomes)) (own l.initial.steps (tally l.steps l.n l.initial.s))
+invariant-loop-s l =     (l.s ≤ l.n) × Lent l.n l.store (tally l.outcomes l.codes l.steps)
+    × Upto l.s (bit l.turn.on.bits) (acting l.image l.node) (own l.initial.store (tally l.initial.outcomes l.initial.codes l.initial.steps)) (own l.store (tally l.outcomes l.codes l.steps))
 
 abbrev pub decreases-loop-s : goal.decreases-loop-s
-decreases-loop-s l = l.initial.codes - l.s
+decreases-loop-s l = l.n - l.s

@@ -10,7 +10,7 @@ use Rattle.shared.proofs.Own.{answers}
 use Rattle.shared.proofs.ask.ask_for.Given as goal
 
 abbrev pub invariant-loop-s : goal.invariant-loop-s
-invariant-loop-s l = (l.s ≤ l.n) × Found l.s (bit l.on.bits) (answers l.image l.node l.outcomes l.store) l.initial.s.bits
+invariant-loop-s l = (l.s ≤ l.n) × Found l.s (bit l.on.bits) (answers l.image l.node l.outcomes l.store) l.found.bits
 
 abbrev pub decreases-loop-s : goal.decreases-loop-s
 decreases-loop-s l = l.n - l.s

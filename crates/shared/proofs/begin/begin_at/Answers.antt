@@ -40,21 +40,21 @@ module _ (c : After-set_progress) where
   on_it : bit start.args.on.bits start.args.s ≡ true
   on_it =
       let else : Else-not-has = begun.before.before.before.before.before in
-      sym else.before.has.ensures ∙ not-false _ else.if1.left
+      sym else.before.has.ensures ∙ not-false _ else.if-not-has.left
 
 
 pub returns-then-p-eq-LIVE : goal.returns-then-p-eq-LIVE
 returns-then-p-eq-LIVE c =
     let a = (start c.before.before.before.before.before.before.before.before.before).args in
     let pre = (start c.before.before.before.before.before.before.before.before.before).requires in
-    joins a.on a.left pre.tallied pre.setting_below (on_it c.before.before.before.before.before.before.before.before.before) (begun c.before.before.before.before.before.before.before.before.before).before.progress_of.ensures (begun c.before.before.before.before.before.before.before.before.before).begin.ensures {T' = tally _ _ _}
+    joins a.on a.left pre.tallied pre.setting_below (on_it c.before.before.before.before.before.before.before.before.before) (begun c.before.before.before.before.before.before.before.before.before).before.progress_of.ensures (begun c.before.before.before.before.before.before.before.before.before).begin-p.ensures {T' = tally _ _ _}
     (omega arith) (omega (arith, pre.setting_below, pre.few)) c.set_progress.ensures c.with.ensures
 
 pub returns : goal.returns
 returns c =
     let a = (start c.before.before.before.before.before.before.before.before).args in
     let pre = (start c.before.before.before.before.before.before.before.before).requires in
-    joins_not a.on a.left pre.tallied pre.setting_below (on_it c.before.before.before.before.before.before.before.before) (begun c.before.before.before.before.before.before.before.before).before.progress_of.ensures (begun c.before.before.before.before.before.before.before.before).begin.ensures {T' = tally _ _ _}
+    joins_not a.on a.left pre.tallied pre.setting_below (on_it c.before.before.before.before.before.before.before.before) (begun c.before.before.before.before.before.before.before.before).before.progress_of.ensures (begun c.before.before.before.before.before.before.before.before).begin-p.ensures {T' = tally _ _ _}
     (λ e. omega arith) c.set_progress.ensures
 
 pub begin-p-requires : goal.begin-p-requires

@@ -22,7 +22,7 @@ module _ (c : After-loop-s) where
   start = c.before.before.before.before.before
 
   all : BegunBelow start.args.plan.settings start.args.plan.budget start.args.turn.on start.args.plan.settings
-      (tally start.args.outcomes.now start.args.codes.now start.args.steps.now)
+      (tally start.args.outcomes-1.now start.args.codes-1.now start.args.steps-1.now)
       (tally c.loop-s.outcomes c.loop-s.codes c.loop-s.steps) c.loop-s.left
   all =
       let e : c.loop-s.s ≡ start.args.plan.settings = omega arith in

@@ -8,7 +8,7 @@ use Rattle.shared.proofs.Beginning.{BegunBelow, none_begun, one_more, to_go, all
 use Rattle.shared.proofs.begin.begin_for.Given as goal
 
 abbrev pub invariant-loop-s : goal.invariant-loop-s
-invariant-loop-s l =     (l.s ≤ l.codes) × BegunBelow l.codes l.plan.budget l.turn.on l.s (tally l.initial.outcomes l.outcomes l.initial.codes) (tally l.n l.initial.left l.left) l.initial.s
+invariant-loop-s l =     (l.s ≤ l.n) × BegunBelow l.n l.plan.budget l.turn.on l.s (tally l.initial.outcomes l.initial.codes l.initial.steps) (tally l.outcomes l.codes l.steps) l.left
 
 abbrev pub decreases-loop-s : goal.decreases-loop-s
-decreases-loop-s l = l.codes - l.s
+decreases-loop-s l = l.n - l.s

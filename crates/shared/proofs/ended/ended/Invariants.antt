@@ -12,8 +12,8 @@ use Rattle.shared.proofs.SetOf.{found_set}
 use Rattle.shared.proofs.ended.ended.Given as goal
 
 abbrev pub invariant-loop-s : goal.invariant-loop-s
-invariant-loop-s l =     (l.s ≤ l.n) × (l.initial.s.bits < 2 ^ 64)
-    × Found l.s (λ t. true) (λ t. eqb (get_or l.outcomes t 0) l.outcome) l.initial.s.bits
+invariant-loop-s l =     (l.s ≤ l.n) × (l.found.bits < 2 ^ 64)
+    × Found l.s (λ t. true) (λ t. eqb (get_or l.outcomes t 0) l.outcome) l.found.bits
 
 abbrev pub decreases-loop-s : goal.decreases-loop-s
 decreases-loop-s l = l.n - l.s

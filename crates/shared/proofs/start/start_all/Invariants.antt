@@ -9,7 +9,7 @@ use Rattle.shared.proofs.Starting.{StartedBelow, none_started, one_more, all_sta
 use Rattle.shared.proofs.start.start_all.Given as goal
 
 abbrev pub invariant-loop-s : goal.invariant-loop-s
-invariant-loop-s l = (l.s ≤ l.n) × StartedBelow l.n l.set l.s (tally l.initial.steps l.steps l.initial.s)
+invariant-loop-s l = (l.s ≤ l.n) × StartedBelow l.n l.set l.s (tally l.outcomes l.codes l.steps)
 
 abbrev pub decreases-loop-s : goal.decreases-loop-s
 decreases-loop-s l = l.n - l.s
