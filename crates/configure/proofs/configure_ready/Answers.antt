@@ -40,10 +40,10 @@ module _ (c : After-configured_size-size) where
   s = start.args.s
 
   acc : Accepted l
-  acc = start.pre.0.accepted
+  acc = start.requires.0.accepted
 
   nodes_are : start.args.shape.nodes ≡ (header l).nodes
-  nodes_are = start.pre.1
+  nodes_are = start.requires.1
 
   some_node : 1 ≤ start.args.shape.nodes
   some_node = omega (arith, nodes_are, acc.some_node)

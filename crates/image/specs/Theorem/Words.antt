@@ -23,7 +23,8 @@ number_bytes (suc n) w before after h =
     let high : number_at (before ++ rest) (length before) n ≡ w / 256 = number_bytes n (w / 256) before (w % 256 ∷ after) (omega (arith, pow-suc 256 n)) in
     let low : get_or (before ++ rest) (length before + n) 0 ≡ w % 256 =
     get_or-append-add before rest n 0 ∙ get_or_at (bytes_of n (w / 256)) (w % 256) after 0 n (length_bytes n (w / 256)) in
-    rw (same, high, low) (omega arith)
+    let whole : number_at (before ++ rest) (length before) n * 256 + get_or (before ++ rest) (length before + n) 0 ≡ w = rw (high, low) (omega arith) in
+    ap (λ l. number_at (before ++ l) (length before) (suc n)) same ∙ whole
 
 -- each word is of 64 bits
 abbrev pub AllWords : List ℕ → Type 0

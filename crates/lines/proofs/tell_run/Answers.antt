@@ -40,15 +40,15 @@ module _ (c : After-shared_run) where
 
   outcomes_length : length left.outcomes-1 ≡ settings l
   unfolding blank
-  outcomes_length = c.shared_run.auto.1.1.1.1.0 ∙ ap (λ (T : Tally). length T.outcomes-1) start.pre.tally_is ∙ length-replicate (settings l) 0
+  outcomes_length = c.shared_run.auto.1.1.1.1.0 ∙ ap (λ (T : Tally). length T.outcomes-1) start.requires.tally_is ∙ length-replicate (settings l) 0
 
   codes_length : length left.codes-1 ≡ settings l
   unfolding blank
-  codes_length = c.shared_run.auto.1.1.1.1.1.0 ∙ ap (λ (T : Tally). length T.codes-1) start.pre.tally_is ∙ length-replicate (settings l) _
+  codes_length = c.shared_run.auto.1.1.1.1.1.0 ∙ ap (λ (T : Tally). length T.codes-1) start.requires.tally_is ∙ length-replicate (settings l) _
 
   steps_length : length left.steps-1 ≡ settings l
   unfolding blank
-  steps_length = c.shared_run.auto.1.1.1.1.1.1.0 ∙ ap (λ (T : Tally). length T.steps-1) start.pre.tally_is ∙ length-replicate (settings l) 0
+  steps_length = c.shared_run.auto.1.1.1.1.1.1.0 ∙ ap (λ (T : Tally). length T.steps-1) start.requires.tally_is ∙ length-replicate (settings l) 0
 
   told : {r : SharedRun} → c.shared_run.result ≡ r
       → SharedRuns (shared_rows l start.args.set start.args.budget start.args.store-1.now lent) l start.args.set start.args.budget start.args.store-1.now lent c.shared_run.new.1.1.1.0 left r
@@ -67,7 +67,7 @@ put_lines-at-requires c =
 pub put_ends-requires : goal.put_ends-requires
 put_ends-requires c =
     let put = c.put_lines-at in
-    omega (arith, put.ensures.1, put.auto.0, (start c.before.before.before.before.before.before.before.before.before.before.before.before.before.before.before.before.before.before).pre.fits)
+    omega (arith, put.ensures.1, put.auto.0, (start c.before.before.before.before.before.before.before.before.before.before.before.before.before.before.before.before.before.before).requires.fits)
 
 pub returns-in-Refused : goal.returns-in-Refused
 returns-in-Refused c =

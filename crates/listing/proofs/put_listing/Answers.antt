@@ -54,14 +54,14 @@ put_decimal-count-requires c =
 pub put-line-requires : goal.put-line-requires
 put-line-requires c =
     let first = word c.before.before.before.before.before in
-    let pre = (start first).pre in
+    let pre = (start first).requires in
     omega (arith, pre.fits, long pre.shaped, first.put-word.ensures.next_is, kept first.put-word.ensures, c.put_decimal-count.ensures.next_is, kept c.put_decimal-count.ensures)
 
 pub list_node-end-requires : goal.list_node-end-requires
 list_node-end-requires c =
     let second = count c.before.before.before.before in
     let first = word second in
-    let pre = (start first).pre in
+    let pre = (start first).requires in
     record {
       good = record { accepted = pre.shaped.accepted; conditions_are = conditions_are pre.shaped };
       node_below = omega (arith, nodes_are pre.shaped, pre.shaped.accepted.some_node);
@@ -84,7 +84,7 @@ put-requires c =
     let third = line c.before.before.before.before.before in
     let second = count third in
     let first = word second in
-    let pre = (start first).pre in
+    let pre = (start first).requires in
     omega (
       arith,
       pre.fits,
@@ -104,5 +104,5 @@ returns c =
     let third = line c.before.before.before.before.before.before.before.before in
     let second = count third in
     let first = word second in
-    same (parts (start first).pre.shaped)
+    same (parts (start first).requires.shaped)
     (then first.put-word.ensures (then second.put_decimal-count.ensures (then third.put-line.ensures (then c.list_node-end.ensures c.put.ensures))))

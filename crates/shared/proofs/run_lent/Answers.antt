@@ -25,7 +25,7 @@ started c = c.before.before.before.before.before.before.before.before.before.bef
 pub returns : goal.returns
 returns c =
     let at : tie.After-start-all = started c.before.before.before.before.before.before.before.before.before.before.before in
-    ended_as_meant (start at).pre {T' = tally _ _ _} at.start-all.ensures {T'' = tally _ _ _} c.run.ensures
+    ended_as_meant (start at).requires {T' = tally _ _ _} at.start-all.ensures {T'' = tally _ _ _} c.run.ensures
     c.ended.ensures c.ended-out.ensures
 
 pub condition_sets-sets-requires : goal.condition_sets-sets-requires
@@ -49,9 +49,9 @@ run-visits-requires c =
 pub ended-fault-requires : goal.ended-fault-requires
 ended-fault-requires c =
     let at : tie.After-start-all = started c.before.before.before.before.before.before.before.before in
-    few_outcomes (start at).pre {T' = tally _ _ _} at.start-all.ensures {T'' = tally _ _ _} c.run.ensures
+    few_outcomes (start at).requires {T' = tally _ _ _} at.start-all.ensures {T'' = tally _ _ _} c.run.ensures
 
 pub ended-out-requires : goal.ended-out-requires
 ended-out-requires c =
     let at : tie.After-start-all = started c.before.before.before.before.before.before.before.before.before.before in
-    few_outcomes (start at).pre {T' = tally _ _ _} at.start-all.ensures {T'' = tally _ _ _} c.run.ensures
+    few_outcomes (start at).requires {T' = tally _ _ _} at.start-all.ensures {T'' = tally _ _ _} c.run.ensures

@@ -42,19 +42,19 @@ module _ (c : After-shared_run) where
   left = tally c.shared_run.new.1.1.1.1.0 c.shared_run.new.1.1.1.1.1.0 c.shared_run.new.1.1.1.1.1.1.0
 
   begun : filled.fill.last.1.0 ≡ starts 0 (n * 16)
-  begun = filled.fill.ensures ∙ ap (starts 0) start.pre.store_is
+  begun = filled.fill.ensures ∙ ap (starts 0) start.requires.store_is
 
   store_length : length c.shared_run.new.1.1.1.0 ≡ n * 16
-  store_length = c.shared_run.auto.1.1.1.0 ∙ filled.fill.kept.1.0 ∙ start.pre.store_is
+  store_length = c.shared_run.auto.1.1.1.0 ∙ filled.fill.kept.1.0 ∙ start.requires.store_is
 
   outcomes_length : length left.outcomes-1 ≡ n
   outcomes_length = c.shared_run.auto.1.1.1.1.0
 
   codes_length : length left.codes-1 ≡ n
-  codes_length = c.shared_run.auto.1.1.1.1.1.0 ∙ start.pre.codes_are
+  codes_length = c.shared_run.auto.1.1.1.1.1.0 ∙ start.requires.codes_are
 
   steps_length : length left.steps-1 ≡ n
-  steps_length = c.shared_run.auto.1.1.1.1.1.1.0 ∙ start.pre.steps_are
+  steps_length = c.shared_run.auto.1.1.1.1.1.1.0 ∙ start.requires.steps_are
 
 
 pub returns-in-Refused : goal.returns-in-Refused

@@ -68,16 +68,16 @@ module _ (c : After-node_at-node) where
   is_node = c.node_at-node.ensures
 
   low : Lower n (node l n)
-  low = lower (header l).conditions n (node l n) (start.pre.ready.accepted.nodes_fit n start.pre.node_below)
+  low = lower (header l).conditions n (node l n) (start.requires.ready.accepted.nodes_fit n start.requires.node_below)
 
   -- ---- a choice
 
   module _ (choice : is_choice (node l n).kind ≡ true) where
     b_below : (node l n).b < n
-    b_below = choice_b l start.pre.ready.accepted n start.pre.node_below choice
+    b_below = choice_b l start.requires.ready.accepted n start.requires.node_below choice
 
     c_below : (node l n).c < n
-    c_below = choice_c l start.pre.ready.accepted n start.pre.node_below choice
+    c_below = choice_c l start.requires.ready.accepted n start.requires.node_below choice
 
     part-below : (part : ℕ) → part ≡ cond (bit (get_or condition_sets (node l n).a 0) s) (node l n).b (node l n).c → part < n
     part-below part e = rw e (chosen_lower (bit (get_or condition_sets (node l n).a 0) s) (node l n).b (node l n).c n b_below c_below)
@@ -86,8 +86,8 @@ module _ (c : After-node_at-node) where
     part-size : (part : ℕ) → part ≡ cond (bit (get_or condition_sets (node l n).a 0) s) (node l n).b (node l n).c
         → get_or sizes part 0 ≡ size (term_at l s n)
     part-size part e =
-        let held = chosen_is l _ _ s _ start.pre.ready (choice_condition l start.pre.ready.accepted n start.pre.node_below choice) in
-        start.pre.before.right part (part-below part e)
+        let held = chosen_is l _ _ s _ start.requires.ready (choice_condition l start.requires.ready.accepted n start.requires.node_below choice) in
+        start.requires.before.right part (part-below part e)
         ∙ ap (λ x. size (term_at l s x)) (e ∙ ap (λ u. cond u (node l n).b (node l n).c) held)
         ∙ sym (ap size (choice_term l s n choice b_below c_below))
 
@@ -108,7 +108,7 @@ module _ (c : After-chosen-part) where
   part_is = c.chosen-part.ensures ∙ ap (λ ν. cond (bit (get_or (condition_sets at) ν.a 0) (s at)) ν.b ν.c) (is_node at)
 
   part-there : c.chosen-part.result < length (sizes at)
-  part-there = omega (arith, part-below at choice _ part_is, (start at).pre.kept)
+  part-there = omega (arith, part-below at choice _ part_is, (start at).requires.kept)
 
 
 pub offset_bounds-sizes-part : goal.offset_bounds-sizes-part
@@ -144,13 +144,13 @@ module _ (c : After-layout-digits) where
 
   -- a child that a field names has its size
   a_there : names_node (a_digit c.layout-digits.result) ≡ true → here.node_at-node.result.a < length (sizes here)
-  a_there names = omega (arith, is_a, (low here).a_lower (ap (λ d. names_node (a_digit d)) (sym digits_are) ∙ names), (start here).pre.kept)
+  a_there names = omega (arith, is_a, (low here).a_lower (ap (λ d. names_node (a_digit d)) (sym digits_are) ∙ names), (start here).requires.kept)
 
   b_there : names_node (b_digit c.layout-digits.result) ≡ true → here.node_at-node.result.b < length (sizes here)
-  b_there names = omega (arith, is_b, (low here).b_lower (ap (λ d. names_node (b_digit d)) (sym digits_are) ∙ names), (start here).pre.kept)
+  b_there names = omega (arith, is_b, (low here).b_lower (ap (λ d. names_node (b_digit d)) (sym digits_are) ∙ names), (start here).requires.kept)
 
   c_there : names_node (c_digit c.layout-digits.result) ≡ true → here.node_at-node.result.c < length (sizes here)
-  c_there names = omega (arith, is_c, (low here).c_lower (ap (λ d. names_node (c_digit d)) (sym digits_are) ∙ names), (start here).pre.kept)
+  c_there names = omega (arith, is_c, (low here).c_lower (ap (λ d. names_node (c_digit d)) (sym digits_are) ∙ names), (start here).requires.kept)
 
 
 pub slot_size-in_a-requires : goal.slot_size-in_a-requires
@@ -173,17 +173,17 @@ module _ (c : After-slot_size-in_c) where
   in_a : c.slot_size-in_a.result ≡ branch_size (hang (names_node (a_digit (d own))) (term_at (l at_own) (s at_own)) (node (l at_own) (n at_own)).a)
   in_a = c.slot_size-in_a.ensures
       ∙ (λ i. cond (names_node (a_digit (digits_are own i))) (get_or (sizes at_own) (is_a own i) 0) 0)
-      ∙ slot_is (l at_own) (s at_own) (n at_own) (sizes at_own) (names_node (a_digit (d own))) (node (l at_own) (n at_own)).a (start at_own).pre.before (low at_own).a_lower
+      ∙ slot_is (l at_own) (s at_own) (n at_own) (sizes at_own) (names_node (a_digit (d own))) (node (l at_own) (n at_own)).a (start at_own).requires.before (low at_own).a_lower
 
   in_b : c.slot_size-in_b.result ≡ branch_size (hang (names_node (b_digit (d own))) (term_at (l at_own) (s at_own)) (node (l at_own) (n at_own)).b)
   in_b = c.slot_size-in_b.ensures
       ∙ (λ i. cond (names_node (b_digit (digits_are own i))) (get_or (sizes at_own) (is_b own i) 0) 0)
-      ∙ slot_is (l at_own) (s at_own) (n at_own) (sizes at_own) (names_node (b_digit (d own))) (node (l at_own) (n at_own)).b (start at_own).pre.before (low at_own).b_lower
+      ∙ slot_is (l at_own) (s at_own) (n at_own) (sizes at_own) (names_node (b_digit (d own))) (node (l at_own) (n at_own)).b (start at_own).requires.before (low at_own).b_lower
 
   in_c : c.slot_size-in_c.result ≡ branch_size (hang (names_node (c_digit (d own))) (term_at (l at_own) (s at_own)) (node (l at_own) (n at_own)).c)
   in_c = c.slot_size-in_c.ensures
       ∙ (λ i. cond (names_node (c_digit (digits_are own i))) (get_or (sizes at_own) (is_c own i) 0) 0)
-      ∙ slot_is (l at_own) (s at_own) (n at_own) (sizes at_own) (names_node (c_digit (d own))) (node (l at_own) (n at_own)).c (start at_own).pre.before (low at_own).c_lower
+      ∙ slot_is (l at_own) (s at_own) (n at_own) (sizes at_own) (names_node (c_digit (d own))) (node (l at_own) (n at_own)).c (start at_own).requires.before (low at_own).c_lower
 
   whole : c.slot_size-in_a.result + c.slot_size-in_b.result + c.slot_size-in_c.result + 1 ≡ size (term_at (l at_own) (s at_own) (n at_own))
   unfolding size
@@ -194,8 +194,8 @@ module _ (c : After-slot_size-in_c) where
   total_small = omega (
     arith,
     whole,
-    size_small (l at_own) (start at_own).pre.ready.accepted (s at_own) (n at_own) (start at_own).pre.node_below,
-    (start at_own).pre.ready.accepted.few_nodes,
+    size_small (l at_own) (start at_own).requires.ready.accepted (s at_own) (n at_own) (start at_own).requires.node_below,
+    (start at_own).requires.ready.accepted.few_nodes,
   )
 
 

@@ -78,7 +78,7 @@ module _ (t : ℕ) (c : write-lts.After-node_at (write_uses t) (write_at t) writ
   ν = c.Node-at.result
 
   node : Nodes.Read l start.args.conditions start.args.sets.now s n at (length out) ν
-  node = record { writing = start.pre.1; is_node = c.Node-at.ensures }
+  node = record { writing = start.requires.1; is_node = c.Node-at.ensures }
 
 
 module _ (t : ℕ) (c : write-lts.After-chosen (write_uses t) (write_at t) write.Post) where
@@ -92,7 +92,7 @@ module _ (t : ℕ) (c : write-lts.After-chosen (write_uses t) (write_at t) write
   -- the part may be written in the node's place
   part-next : (2 * c.chosen.result + 2 < t)
       × Writing (l t read) (start t read).args.conditions (start t read).args.sets.now (s t read) c.chosen.result (at t read) (length (out t read))
-  part-next = (omega (arith, part.is_lower, (start t read).pre.0), Nodes.part_writing (node t read) part)
+  part-next = (omega (arith, part.is_lower, (start t read).requires.0), Nodes.part_writing (node t read) part)
 
 
 pub write-write-requires : goal.write-write-requires
@@ -117,7 +117,7 @@ module _ (t : ℕ) (c : write-lts.After-layout (write_uses t) (write_at t) write
       → next + branch_size (hung (l t own) (s t own) slot value) ≤ at t own + size (term_at (l t own) (s t own) (n t own)) → space ≡ length (out t own)
       → (cond (names_node slot) (2 * value + 3) 0 < t)
       × SlotWriting (l t own) (start t own).args.conditions (start t own).args.sets.now (s t own) slot value next space
-  child {slot} lower le same = (omega (arith, Nodes.slot_falls slot lower, (start t own).pre.0), Nodes.slot_writing (node t own) lower le same)
+  child {slot} lower le same = (omega (arith, Nodes.slot_falls slot lower, (start t own).requires.0), Nodes.slot_writing (node t own) lower le same)
 
 
 pub write-write_slot-after_a-requires : goal.write-write_slot-after_a-requires

@@ -70,7 +70,7 @@ fitting : (c : Else-node-nodes)
 fitting c =
     let st = start-6 c in
     record {
-      whole = st.pre.whole;
+      whole = st.requires.whole;
       fits = all_pass st.args.shape.nodes _ (rw c.lowest_node-node.ensures at c.if-node-nodes.false);
     }
 

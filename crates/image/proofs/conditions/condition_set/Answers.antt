@@ -15,19 +15,7 @@ use Rattle.image.specs.Accepted.{Accepted}
 use Rattle.image.specs.Theorem.Accepted.{accepts}
 use Rattle.image.specs.Theorem.Checked.{good_accepted, good_shape}
 use Rattle.image.specs.Theorem.Then.{judge_then, judge_stops}
-use Rattle.image.proofs.conditions.condition_set.Lts as lts
-use Rattle.image.proofs.conditions.condition_set.Reads as reads
-use Rattle.image.proofs.conditions.condition_set.Tie as tie
 use Rattle.image.proofs.conditions.condition_set.Goals as goal
-
-abbrev In-Good-2 : Type 0
-In-Good-2 = lts.After-shape tie.the-claims reads.Pre reads.Post
-
-abbrev Start : Type 0
-Start = lts.Start tie.the-claims reads.Pre reads.Post
-
-abbrev Else-shape-number : Type 0
-Else-shape-number = lts.Else1 tie.the-claims reads.Pre reads.Post
 
 -- the three answers
 module _ (l : List ℕ) (k : ℕ) where
@@ -44,44 +32,35 @@ module _ (l : List ℕ) (k : ℕ) where
   unfolding condition_rows judge
   found a h w e = ap answer (fun_ext e) ∙ sym (judge_then k (check_rows l) _ (in_condition l k) (accepts l k a) ∙ rw (lt-ltb k (header l).conditions h))
 
-
 -- where the image is good
-module _ (c : In-Good-2) where
-  abbrev start : Start
-  start = c.before.before.before.before
-
-  abbrev l : List ℕ
-  l = start.args.image.now
-
-  told : answer c.in-Good.shape ≡ judge (check_rows l) (shape_of l)
-  told = ap answer_of (sym c.in-Good.is) ∙ c.check.ensures
-
+module _ (l : List ℕ) (shape : Shape) (told : answer shape ≡ judge (check_rows l) (shape_of l)) where
   is_accepted : Accepted l
-  is_accepted = good_accepted l _ told
+  is_accepted = good_accepted l shape told
 
-  conditions_are : c.in-Good.shape.conditions ≡ (header l).conditions
+  conditions_are : shape.conditions ≡ (header l).conditions
   unfolding shape_of
-  conditions_are = ap (λ (h : Shape). h.conditions) (good_shape l _ told)
-
+  conditions_are = ap (λ (h : Shape). h.conditions) (good_shape l shape told)
 
 pub returns-then-shape-number : goal.returns-then-shape-number
 returns-then-shape-number c =
-    beyond (l c.before.before.before.before) (start c.before.before.before.before).args.number (is_accepted c.before.before.before.before) (omega (arith, conditions_are c.before.before.before.before, c.if-shape-number.true))
+    let l = c.args.image.now in
+    let told = ap answer_of (sym c.in-Good.is) ∙ c.check.ensures in
+    beyond l c.args.number (is_accepted l _ told) (omega (arith, conditions_are l _ told, c.if-shape-number.true))
 
 pub condition_sets-sets-requires : goal.condition_sets-sets-requires
 condition_sets-sets-requires c =
-    (is_accepted c.before.before.before.before, good_shape (l c.before.before.before.before) _ (told c.before.before.before.before))
-
-number-below : (c : Else-shape-number) → (start c.before.before.before).args.number < (header (l c.before.before.before)).conditions
-number-below c = omega (arith, conditions_are c.before.before.before, c.if-shape-number.false)
+    let l = c.args.image.now in
+    let told = ap answer_of (sym c.in-Good.is) ∙ c.check.ensures in
+    (is_accepted l _ told, good_shape l _ told)
 
 pub returns-in-Refused : goal.returns-in-Refused
-returns-in-Refused c =
-    refused_first _ _ _ _ (ap answer_of (sym c.in-Refused.is) ∙ c.check.ensures)
+returns-in-Refused c = refused_first _ _ _ _ (ap answer_of (sym c.in-Refused.is) ∙ c.check.ensures)
 
 pub returns-else-shape-number : goal.returns-else-shape-number
 returns-else-shape-number c =
-    let below = number-below c.before.before.before.before in
+    let l = c.args.image.now in
+    let told = ap answer_of (sym c.in-Good.is) ∙ c.check.ensures in
+    let below : c.args.number < (header l).conditions = omega (arith, conditions_are l _ told, c.if-shape-number.false) in
     let sets = c.condition_sets-sets.ensures.sets_are in
-    found (l c.before.before.before.before.before.before.before) (start c.before.before.before.before.before.before.before).args.number (is_accepted c.before.before.before.before.before.before.before) below _
-    λ s. ap (λ x. bit x s) c.at.ensures ∙ sets.right (start c.before.before.before.before.before.before.before).args.number (omega (arith, below, conditions_are c.before.before.before.before.before.before.before)) s
+    found l c.args.number (is_accepted l _ told) below _
+    λ s. ap (λ x. bit x s) c.at.ensures ∙ sets.right c.args.number (omega (arith, below, conditions_are l _ told)) s

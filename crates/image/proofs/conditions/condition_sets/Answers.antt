@@ -34,7 +34,6 @@ module _ (c : Start) where
   unfolding shape_of
   conditions_are = ap (λ h. h.conditions) c.requires.1
 
-
 -- one set more
 more : (l sets : List ℕ) (k w : ℕ) → k < 256 → TableOf l k sets → ((s : ℕ) → bit w s ≡ in_condition l k s) → TableOf l (k + 1) (set sets k w)
 more l sets k w h before this =
@@ -93,7 +92,7 @@ pub loop-k-preserved : goal.loop-k-preserved
 loop-k-preserved c =
     let loop = c.loop-k in (
       omega arith,
-      more _ loop.sets-1 loop.k c.set_of.result.bits (below-256 c.before) loop.invariant.1 c.set_of.ensures,
+      more _ loop.sets loop.k c.set_of.result.bits (below-256 c.before) loop.invariant.1 c.set_of.ensures,
     )
 
 pub returns : goal.returns

@@ -24,9 +24,6 @@ After-condition_at-r = lts.After-condition_at tie.the-claims reads.Pre reads.Pos
 abbrev Start : Type 0
 Start = lts.Start tie.the-claims reads.Pre reads.Post
 
-abbrev In_default : Type 0
-In_default = lts.At-match-rest tie.the-claims reads.Pre reads.Post
-
 -- what is known once the record is read
 module _ (c : After-condition_at-r) where
   abbrev start : Start
@@ -46,10 +43,10 @@ module _ (c : After-condition_at-r) where
 
   -- a name of the record is below k
   left_lower : (κ : ℕ) → c.condition_at-r.result.kind ≡ κ → condition_layout κ / 8 % 8 ≡ 1 → (condition_record l k).left < k
-  left_lower κ e d = left_below (header l).options k (condition_record l k) start.pre.fits κ (is_record κ e) d
+  left_lower κ e d = left_below (header l).options k (condition_record l k) start.requires.fits κ (is_record κ e) d
 
   right_lower : (κ : ℕ) → c.condition_at-r.result.kind ≡ κ → condition_layout κ % 8 ≡ 1 → (condition_record l k).right < k
-  right_lower κ e d = right_below (header l).options k (condition_record l k) start.pre.fits κ (is_record κ e) d
+  right_lower κ e d = right_below (header l).options k (condition_record l k) start.requires.fits κ (is_record κ e) d
 
   is_left : c.condition_at-r.result.left ≡ (condition_record l k).left
   is_left = ap (λ r. r.left) c.condition_at-r.ensures
@@ -59,27 +56,10 @@ module _ (c : After-condition_at-r) where
 
   -- the set that is looked up, x
   left_set : (s x : ℕ) → x ≡ get_or sets c.condition_at-r.result.left 0 → (condition_record l k).left < k → bit x s ≡ in_condition l (condition_record l k).left s
-  left_set s x e h = ap (λ y. bit y s) (e ∙ ap (λ i. get_or sets i 0) is_left) ∙ start.pre.before.right (condition_record l k).left h s
+  left_set s x e h = ap (λ y. bit y s) (e ∙ ap (λ i. get_or sets i 0) is_left) ∙ start.requires.before.right (condition_record l k).left h s
 
   right_set : (s x : ℕ) → x ≡ get_or sets c.condition_at-r.result.right 0 → (condition_record l k).right < k → bit x s ≡ in_condition l (condition_record l k).right s
-  right_set s x e h = ap (λ y. bit y s) (e ∙ ap (λ i. get_or sets i 0) is_right) ∙ start.pre.before.right (condition_record l k).right h s
-
-
--- the last arm is kind 5
-module _ (c : In_default) where
-  is_5 : c.condition_at-r.result.kind ≡ 5
-  is_5 =
-      let below : (condition_record (l c.before) (k c.before)).kind < 6 = kind_below _ _ _ (start c.before).pre.fits in
-      omega (
-        arith,
-        below,
-        ap (λ r. r.kind) c.condition_at-r.ensures,
-        c.in_default.rest.1,
-        c.in_default.rest.0.1,
-        c.in_default.rest.0.0.1,
-        c.in_default.rest.0.0.0.1,
-        c.in_default.rest.0.0.0.0.1,
-      )
+  right_set s x e h = ap (λ y. bit y s) (e ∙ ap (λ i. get_or sets i 0) is_right) ∙ start.requires.before.right (condition_record l k).right h s
 
 
 pub returns-in-0 : goal.returns-in-0
@@ -87,12 +67,12 @@ returns-in-0 c s =
     ap (λ x. bit x s) c.empty.ensures ∙ bit_none s ∙ sym (false_set (l c.before.before.before) (k c.before.before.before) s (is_record c.before.before.before 0 c.in-0.is))
 
 pub returns-in-1 : goal.returns-in-1
-returns-in-1 c s = (start c.before.before).pre.full_is s ∙ sym (true_set (l c.before.before) (k c.before.before) s (is_record c.before.before 1 c.in-1.is))
+returns-in-1 c s = (start c.before.before).requires.full_is s ∙ sym (true_set (l c.before.before) (k c.before.before) s (is_record c.before.before 1 c.in-1.is))
 
 pub returns-in-2 : goal.returns-in-2
 returns-in-2 c s =
     c.option.ensures s
-    ∙ ap₂ (λ a o. a && bit s o) ((start c.before.before.before).requires.full_is s) (ap (λ c.before.before.before. c.option) c.condition_at-r.ensures)
+    ∙ ap₂ (λ a o. a && bit s o) ((start c.before.before.before).requires.full_is s) (ap (λ r. r.option) c.condition_at-r.ensures)
     ∙ sym (option_set (l c.before.before.before) (k c.before.before.before) s (is_record c.before.before.before 2 c.in-2.is))
 
 pub returns-in-3 : goal.returns-in-3
@@ -115,7 +95,8 @@ returns-in-4 c s =
 pub returns-in_default : goal.returns-in_default
 unfolding condition_layout condition_kinds
 returns-in_default c s =
-    let e = is_5 c.before.before.before.before in
+    let below : (condition_record c.args.image.now c.args.k).kind < 6 = kind_below _ _ _ c.requires.fits in
+    let e : c.condition_at-r.result.kind ≡ 5 = omega (arith, below, ap (λ r. r.kind) c.condition_at-r.ensures) in
     let h = left_lower c.before.before.before.before.before 5 e refl in
     let i = right_lower c.before.before.before.before.before 5 e refl in
     c.join.ensures s

@@ -1,5 +1,5 @@
 -- `classed` meets its contract: the names of a node that fits are lower, so the nodes they name are inside the image.
-use mathlib.Core.Bool.{and_true}
+use mathlib.Core.Bool.{and-true}
 use Prim.Native.Nat.{ℕ, suc, ◌+◌, ◌*◌, ◌≤◌, ◌<◌}
 use native.Mathlib.Omega.{arith}
 use lib.ListN.{length}
@@ -52,4 +52,4 @@ pub returns : goal.returns
 unfolding classed
 returns c =
     let args = (start c.before.before.before.before.before).args in
-    rw (ne_eqb (suc args.n) (header args.image.now).nodes (λ e. omega arith), and_true) (cc)
+    rw (ne_eqb (suc args.n) (header args.image.now).nodes (λ e. omega arith), and-true) (cc)

@@ -40,7 +40,7 @@ loop-n-preserved c =
     let counted = c.count_node in (
       omega arith,
       (
-        counted.auto.0 ∙ c.loop-n.invariant.1.0,
+        counted.auto.counts ∙ c.loop-n.invariant.1.0,
         λ k. rw (add-one, ← c.loop-n.invariant.1.1 k, ← c.node_at.ensures) (counted.ensures k),
       ),
     )

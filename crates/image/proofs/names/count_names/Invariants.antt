@@ -12,7 +12,7 @@ use Rattle.image.proofs.Counting.{names_le}
 use Rattle.image.proofs.names.count_names.Given as goal
 
 abbrev pub invariant-loop-n : goal.invariant-loop-n
-invariant-loop-n l =     (l.n ≤ l.nodes) × ((length l.counts ≡ length l.initial.counts) × ((k : ℕ) → get_or l.counts k 0 ≡ names l.image l.n k))
+invariant-loop-n l = (l.n ≤ l.nodes) × ((length l.counts ≡ length l.initial.counts) × ((k : ℕ) → get_or l.counts k 0 ≡ names l.image l.n k))
 
 abbrev pub decreases-loop-n : goal.decreases-loop-n
 decreases-loop-n l = l.nodes - l.n

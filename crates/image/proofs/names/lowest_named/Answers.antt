@@ -20,6 +20,6 @@ pub returns : goal.returns
 unfolding named_wrong
 returns c =
     let counted = c.count_names in
-    let same : (k : ℕ) → not (eqb (get_or counted.new.1.1.1.0 k 0) 1) ≡ named_wrong c.args.image.now k =
+    let same : (k : ℕ) → not (eqb (get_or counted.new.counts k 0) 1) ≡ named_wrong c.args.image.now k =
     λ k. rw (counted.ensures k, c.requires.0.whole.nodes_are) in
     c.lowest_wrong.ensures ∙ lowest_same _ _ _ (λ k h. same k)

@@ -44,8 +44,8 @@ module _ (c : After-struct_told-1) where
       let setting = c.put_decimal-after_s in
       omega (
         arith,
-        start.pre,
-        two start.args.s (omega (arith, start.pre)),
+        start.requires,
+        two start.args.s (omega (arith, start.requires)),
         setting.ensures.next_is,
         setting.auto.0,
         word_length start.args.p.outcome,

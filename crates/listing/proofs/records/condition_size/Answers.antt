@@ -48,7 +48,7 @@ module _ (c : After-named_size-right) where
   y = c.named_size-right.result
 
   sums : (x ≤ 257) × (y ≤ 257) × ((all : ℕ) → all ≡ x + y + 1 → capped all ≡ capped (sizeᶜ (condition start.args.image.now start.args.k)))
-  sums = whole_size start.pre own.before.condition_at-r.ensures own.condition_layout-digits.ensures c.named_size-left.ensures c.named_size-right.ensures
+  sums = whole_size start.requires own.before.condition_at-r.ensures own.condition_layout-digits.ensures c.named_size-left.ensures c.named_size-right.ensures
 
 
 pub overflow_add-left : goal.overflow_add-left

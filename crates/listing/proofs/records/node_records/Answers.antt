@@ -54,7 +54,7 @@ module _ (c : After-field_records-in_c) where
 
   sums : (x ≤ 257) × (y ≤ 257) × (z ≤ 257) × (capped (x + y + z) ≡ capped (node_records start.args.image.now start.args.n))
   sums =
-      whole_count start.pre own.before.node_at-node.ensures own.layout-digits.ensures
+      whole_count start.requires own.before.node_at-node.ensures own.layout-digits.ensures
       c.field_records-in_a.ensures c.field_records-in_b.ensures c.field_records-in_c.ensures
 
 

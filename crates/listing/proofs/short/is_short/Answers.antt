@@ -41,20 +41,20 @@ module _ (c : After-node_at-node) where
   kind_is = ap (λ ν. ν.kind) c.node_at-node.ensures
 
   assigns : c.node_at-node.result.kind ≡ 17 → Child l n 1 (node l n).a
-  assigns e = assign_child l start.pre.good.accepted n start.pre.node_below (sym kind_is ∙ e)
+  assigns e = assign_child l start.requires.good.accepted n start.requires.node_below (sym kind_is ∙ e)
 
   throws : c.node_at-node.result.kind ≡ 21 → Child l n 1 (node l n).a
-  throws e = throw_child l start.pre.good.accepted n start.pre.node_below (sym kind_is ∙ e)
+  throws e = throw_child l start.requires.good.accepted n start.requires.node_below (sym kind_is ∙ e)
 
   held : shortᵃ (read l c.node_at-node.result.a).arithmetic ≡ shortᵃ (read l (node l n).a).arithmetic
   held = ap (λ (ν : Node). shortᵃ (read l ν.a).arithmetic) c.node_at-node.ensures
 
 
 pub is_leaf-requires : goal.is_leaf-requires
-is_leaf-requires c = leaf c.node_at-node.ensures (start c.before.before).pre (assigns c.before.before c.in-17.is)
+is_leaf-requires c = leaf c.node_at-node.ensures (start c.before.before).requires (assigns c.before.before c.in-17.is)
 
 pub is_leaf-requires-in-21 : goal.is_leaf-requires-in-21
-is_leaf-requires-in-21 c = leaf c.node_at-node.ensures (start c.before.before).pre (throws c.before.before c.in-21.is)
+is_leaf-requires-in-21 c = leaf c.node_at-node.ensures (start c.before.before).requires (throws c.before.before c.in-21.is)
 
 pub returns-in-16 : goal.returns-in-16
 returns-in-16 c =

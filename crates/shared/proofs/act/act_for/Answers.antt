@@ -29,7 +29,7 @@ pub returns : goal.returns
 returns c =
     let st = started c.before.before in
     let all : c.loop-s.s ≡ st.args.plan.settings = omega arith in
-    acted_for st.pre.below c.loop-s.invariant.1 (rw all at c.loop-s.invariant.2)
+    acted_for st.requires.below c.loop-s.invariant.1 (rw all at c.loop-s.invariant.2)
 
 pub loop-s-init : goal.loop-s-init
 loop-s-init c = (omega arith, c.requires.every.lent, upto_none)
@@ -43,13 +43,13 @@ act_at-requires c =
     record { every = still c.loop-s.invariant.1 (started c.before.before.before.before.before.before).requires.every; setting_below = omega arith }
 
 pub shape_of-store : goal.shape_of-store
-shape_of-store c = c.loop-s.invariant.1.store_length ∙ sym (started c.before.before).pre.every.lent.store_length
+shape_of-store c = c.loop-s.invariant.1.store_length ∙ sym (started c.before.before).requires.every.lent.store_length
 
 pub shape_of-outcomes : goal.shape_of-outcomes
-shape_of-outcomes c = c.loop-s.invariant.1.tallied.outcomes_length ∙ sym (started c.before.before).pre.every.lent.tallied.outcomes_length
+shape_of-outcomes c = c.loop-s.invariant.1.tallied.outcomes_length ∙ sym (started c.before.before).requires.every.lent.tallied.outcomes_length
 
 pub shape_of-codes : goal.shape_of-codes
-shape_of-codes c = c.loop-s.invariant.1.tallied.codes_length ∙ sym (started c.before.before).pre.every.lent.tallied.codes_length
+shape_of-codes c = c.loop-s.invariant.1.tallied.codes_length ∙ sym (started c.before.before).requires.every.lent.tallied.codes_length
 
 pub shape_of-steps : goal.shape_of-steps
-shape_of-steps c = c.loop-s.invariant.1.tallied.steps_length ∙ sym (started c.before.before).pre.every.lent.tallied.steps_length
+shape_of-steps c = c.loop-s.invariant.1.tallied.steps_length ∙ sym (started c.before.before).requires.every.lent.tallied.steps_length

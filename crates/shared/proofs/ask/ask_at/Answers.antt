@@ -44,14 +44,14 @@ module _ (c : After-ask) where
       let a = start.args in
       ap₂ ◌&&◌ (sym c.has.ensures ∙ not-false _ c.if-not-has.false-raw)
       (answer_is a.image.now a.node a.outcomes.now a.store.now a.s
-      (part_is a.store.now a.plan.settings a.s start.pre.every.store_length start.pre.setting_below) c.ask.ensures)
+      (part_is a.store.now a.plan.settings a.s start.requires.every.store_length start.requires.setting_below) c.ask.ensures)
 
 
 pub returns-then-ask : goal.returns-then-ask
 returns-then-ask c =
     let st = start c.before.before.before in
     found_yes (on st) (answer st) st.args.s st.args.found.bits c.with.result.bits
-    (omega (arith, st.pre.setting_below, st.pre.every.prepared.few)) (is_answer c.before.before.before ∙ c.if-ask.true) c.with.ensures
+    (omega (arith, st.requires.setting_below, st.requires.every.prepared.few)) (is_answer c.before.before.before ∙ c.if-ask.true) c.with.ensures
 
 pub returns : goal.returns
 returns c =

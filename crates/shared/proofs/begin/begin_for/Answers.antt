@@ -30,7 +30,7 @@ module _ (c : After-loop-s) where
 
 
 pub returns : goal.returns
-returns c = all_begun (start c.before).pre (all c.before) c.counted.ensures
+returns c = all_begun (start c.before).requires (all c.before) c.counted.ensures
 
 pub loop-s-init : goal.loop-s-init
 loop-s-init c = (omega arith, none_begun c.empty-left.ensures c.requires.tallied)
@@ -57,10 +57,10 @@ pub counted-requires : goal.counted-requires
 counted-requires c = ((start c).requires.visits_few, to_go (start c).requires (all c))
 
 pub shape_of-outcomes : goal.shape_of-outcomes
-shape_of-outcomes c = c.loop-s.invariant.1.tallied.outcomes_length ∙ sym (start c.before).pre.tallied.outcomes_length
+shape_of-outcomes c = c.loop-s.invariant.1.tallied.outcomes_length ∙ sym (start c.before).requires.tallied.outcomes_length
 
 pub shape_of-codes : goal.shape_of-codes
-shape_of-codes c = c.loop-s.invariant.1.tallied.codes_length ∙ sym (start c.before).pre.tallied.codes_length
+shape_of-codes c = c.loop-s.invariant.1.tallied.codes_length ∙ sym (start c.before).requires.tallied.codes_length
 
 pub shape_of-steps : goal.shape_of-steps
-shape_of-steps c = c.loop-s.invariant.1.tallied.steps_length ∙ sym (start c.before).pre.tallied.steps_length
+shape_of-steps c = c.loop-s.invariant.1.tallied.steps_length ∙ sym (start c.before).requires.tallied.steps_length

@@ -23,7 +23,7 @@ started c = c.before.before.before
 pub returns : goal.returns
 returns c =
     let all : c.loop-s.s ≡ (started c.before).args.n = omega arith in
-    all_started (rw all at c.loop-s.invariant.1) (started c.before).pre.1
+    all_started (rw all at c.loop-s.invariant.1) (started c.before).requires.1
 
 pub loop-s-init : goal.loop-s-init
 loop-s-init c = (omega arith, none_started c.requires.0)
@@ -38,10 +38,10 @@ start_at-requires c =
     (omega (arith, sized.outcomes_length), omega (arith, sized.codes_length), omega (arith, sized.steps_length))
 
 pub shape_of-outcomes : goal.shape_of-outcomes
-shape_of-outcomes c = c.loop-s.invariant.1.sized.outcomes_length ∙ sym (started c.before).pre.0.outcomes_length
+shape_of-outcomes c = c.loop-s.invariant.1.sized.outcomes_length ∙ sym (started c.before).requires.0.outcomes_length
 
 pub shape_of-codes : goal.shape_of-codes
-shape_of-codes c = c.loop-s.invariant.1.sized.codes_length ∙ sym (started c.before).pre.0.codes_length
+shape_of-codes c = c.loop-s.invariant.1.sized.codes_length ∙ sym (started c.before).requires.0.codes_length
 
 pub shape_of-steps : goal.shape_of-steps
-shape_of-steps c = c.loop-s.invariant.1.sized.steps_length ∙ sym (started c.before).pre.0.steps_length
+shape_of-steps c = c.loop-s.invariant.1.sized.steps_length ∙ sym (started c.before).requires.0.steps_length
