@@ -8,7 +8,7 @@ use Rattle.imp.specs.Configure.{configure}
 use Rattle.imp.specs.Embed.{embed}
 use Rattle.imp.specs.Rules.Variational.{World, at_start}
 use Rattle.imp.specs.Rules.Figure58.{⇓V, Vimp}
-use Rattle.imp.specs.Theorem.VimpUnique.{unique}
+use Rattle.imp.proofs.Theorem.VimpUnique.{unique}
 use Rattle.image.specs.declared.accept.Checked.{Checked}
 use Rattle.image.specs.declared.accept.Checked.TheVariants.{Good}
 use Rattle.image.specs.Bytes.{Bytes}

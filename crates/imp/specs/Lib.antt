@@ -1,4 +1,4 @@
--- What a routine means. Definitions first, in the order in which they are read; the theorems about them stand under `Theorem`.
+-- What a routine means, definition by definition in the order in which they are read. The theorems about them stand under `proofs/Theorem`.
 pub mod Condition
 pub mod Routine
 pub mod Configure
@@ -9,4 +9,3 @@ pub mod State
 pub mod Plain
 pub mod Shared
 pub mod Rules
-pub mod Theorem

@@ -10,7 +10,7 @@ use Rattle.sets.specs.Member.{bit, has}
 use Rattle.sets.proofs.Laws.{bit_none}
 use Rattle.imp.specs.State.{State, outcome_number, untouched}
 use Rattle.imp.specs.Shared.{Settings, Shared, total}
-use Rattle.imp.specs.Theorem.Bounds.{steps_below, visits_below, empty_visits}
+use Rattle.imp.proofs.Theorem.Bounds.{steps_below, visits_below, empty_visits}
 use Rattle.image.specs.Bytes.{Bytes}
 use Rattle.image.specs.Sets.{settings}
 use Rattle.image.specs.Tree.{routine}

@@ -5,8 +5,8 @@ use Rattle.std.proofs.Common.{◌∙◌, ap, inl, inr}
 use Rattle.imp.specs.Routine.{Statement}
 use Rattle.imp.specs.State.{Numbers, State}
 use Rattle.imp.specs.Plain.{plain_run}
-use Rattle.imp.specs.Theorem.ImpStatements.{run_is_derived, run_is_cut}
-use Rattle.imp.specs.Theorem.DerivedOrCut.{Derived, Cut, derived_or_cut}
+use Rattle.imp.proofs.Theorem.ImpStatements.{run_is_derived, run_is_cut}
+use Rattle.imp.proofs.Theorem.DerivedOrCut.{Derived, Cut, derived_or_cut}
 use Rattle.plain.specs.declared.progress.Progress.{Progress}
 use Rattle.plain.specs.PlainRun.{progress_of}
 use Rattle.acceptance.specs.ByRules.{ended, ByImp, derived, cut}

@@ -8,7 +8,7 @@ use mathlib.Core.List.{List, [], ◌∷◌, ◌++◌}
 use Rattle.imp.specs.State.{Numbers, State}
 use Rattle.imp.specs.Configure.{configure}
 use Rattle.imp.specs.Plain.{plain_run}
-use Rattle.imp.specs.Theorem.Configured.{configure_embed}
+use Rattle.imp.proofs.Theorem.Configured.{configure_embed}
 use Rattle.image.specs.declared.refusals.Refusal.{Refusal}
 use Rattle.image.specs.Bytes.{Bytes}
 use Rattle.image.specs.Refusals.{number_of, place_of}

@@ -7,7 +7,7 @@ use Rattle.imp.specs.Routine.{Statement}
 use Rattle.imp.specs.State.{Numbers}
 use Rattle.imp.specs.Configure.{configure}
 use Rattle.imp.specs.Embed.{embed}
-use Rattle.imp.specs.Theorem.Configured.{configure_embed}
+use Rattle.imp.proofs.Theorem.Configured.{configure_embed}
 use Rattle.image.specs.Bytes.{Bytes}
 use Rattle.image.specs.Records.{header, node}
 use Rattle.image.specs.Layout.{is_choice}

@@ -3,7 +3,7 @@ use Rattle.std.specs.Prelude.{◌≡◌, refl, Bool, true, false, ◌&&◌, List
 use Rattle.std.proofs.Common.{sym, ap, subst, arith, ext_get_or, eqb-true, eq-eqb}
 use Rattle.std.proofs.lemmas.Bool.{false≢true}
 use Rattle.std.proofs.Math.Decide.{ℕ_discrete}
-use Rattle.imp.specs.Theorem.Sets.{and_true}
+use Rattle.imp.proofs.Theorem.Sets.{and_true}
 use Rattle.plain.specs.declared.progress.Progress.{Progress}
 use Rattle.acceptance.specs.Inner.Comparing.{same_number, every, same_at, same_numbers, same_progress}
 

@@ -10,10 +10,10 @@ use Rattle.imp.specs.State.{State, outcome_number, code, fresh, untouched}
 use Rattle.imp.specs.Configure.{configure}
 use Rattle.imp.specs.Plain.{plain_run}
 use Rattle.imp.specs.Shared.{Shared, Below}
-use Rattle.imp.specs.Theorem.Sets.{and_true}
-use Rattle.imp.specs.Theorem.Keep.{length_kept}
-use Rattle.imp.specs.Theorem.Beyond.{not_beyond}
-use Rattle.imp.specs.Theorem.Agreement.{agreement, outside}
+use Rattle.imp.proofs.Theorem.Sets.{and_true}
+use Rattle.imp.proofs.Theorem.Keep.{length_kept}
+use Rattle.imp.proofs.Theorem.Beyond.{not_beyond}
+use Rattle.imp.proofs.Theorem.Agreement.{agreement, outside}
 use Rattle.image.specs.Bytes.{Bytes}
 use Rattle.image.specs.Rows.{Row, check_rows, NoneFails}
 use Rattle.image.specs.Sets.{settings}

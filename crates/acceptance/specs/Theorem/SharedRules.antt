@@ -8,7 +8,7 @@ use Rattle.imp.specs.Configure.{configure}
 use Rattle.imp.specs.Shared.{Shared}
 use Rattle.imp.specs.Rules.Variational.{World, at_start, conf, seen}
 use Rattle.imp.specs.Rules.Figure58.{⇓V, Vimp}
-use Rattle.imp.specs.Theorem.VimpStatements.{shared_is_derived, derived_is_shared}
+use Rattle.imp.proofs.Theorem.VimpStatements.{shared_is_derived, derived_is_shared}
 use Rattle.image.specs.Bytes.{Bytes}
 use Rattle.image.specs.Sets.{settings}
 use Rattle.image.specs.Tree.{routine}

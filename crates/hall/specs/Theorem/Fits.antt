@@ -8,8 +8,8 @@ use Rattle.std.specs.Int.{w32}
 use borrow.Author.Tests.{ltb-true, ltb-false, not-false}
 use Rattle.imp.specs.Configure.{configure}
 use Rattle.imp.specs.State.{Numbers, State}
-use Rattle.imp.specs.Theorem.Configured.{configured_valid}
-use Rattle.imp.specs.Theorem.Range.{AllFit, get_or_fits, InRange, plain_range}
+use Rattle.imp.proofs.Theorem.Configured.{configured_valid}
+use Rattle.imp.proofs.Theorem.Range.{AllFit, get_or_fits, InRange, plain_range}
 use Rattle.image.specs.Bytes.{Bytes}
 use Rattle.image.specs.Rows.{Answer, refused, answer, judge, check_rows, NoneFails}
 use Rattle.image.specs.Sets.{settings, setting_row}

@@ -7,7 +7,7 @@ use Rattle.imp.specs.Condition.{Condition}
 use Rattle.imp.specs.Routine.{Arithmetic, number, variable, sum, pick, choiceᵃ, Boolean, falseᵇ, trueᵇ, notᵇ, andᵇ, less, choiceᵇ, Statement, skip, assign, sequence, if, while, throw, try, choice}
 use Rattle.imp.specs.Embed.{embedᵃ, embedᵇ, embed}
 use Rattle.imp.specs.Valid.{Validᵃ, Validᵇ, Valid}
-use Rattle.imp.specs.Theorem.Wrap.{low_fits, wrap_same}
+use Rattle.imp.proofs.Theorem.Wrap.{low_fits, wrap_same}
 use Rattle.image.specs.Records.{node, node_fields}
 use Rattle.image.specs.Tree.{read}
 use Rattle.image.specs.Term.{Term, term, Branch, none, some, size, branch_size, name, node_word, words, branch_words}

@@ -10,7 +10,7 @@ use Rattle.imp.specs.Condition.{Condition}
 use Rattle.imp.specs.Numbers.{signed32}
 use Rattle.imp.specs.Routine.{Arithmetic, Boolean, Statement, skip}
 use Rattle.imp.specs.Valid.{Validᵃ, Validᵇ, Valid}
-use Rattle.imp.specs.Theorem.Wrap.{signed_is}
+use Rattle.imp.proofs.Theorem.Wrap.{signed_is}
 use Rattle.image.specs.declared.records.Node.{Node}
 use Rattle.image.specs.Bytes.{number_at}
 use Rattle.image.specs.Records.{header, nodes_from, node, node_fields}

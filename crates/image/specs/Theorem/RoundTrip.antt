@@ -9,7 +9,7 @@ use Rattle.imp.specs.Routine.{Statement}
 use Rattle.imp.specs.Configure.{configure}
 use Rattle.imp.specs.Embed.{embed}
 use Rattle.imp.specs.Valid.{Valid}
-use Rattle.imp.specs.Theorem.Configured.{configure_embed}
+use Rattle.imp.proofs.Theorem.Configured.{configure_embed}
 use Rattle.image.specs.Bytes.{Bytes}
 use Rattle.image.specs.Records.{header}
 use Rattle.image.specs.Rows.{class, classed, names}

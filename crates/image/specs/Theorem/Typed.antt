@@ -3,7 +3,7 @@ use Rattle.std.specs.Prelude.{◌≡◌, refl}
 use Rattle.std.proofs.Common.{arith, lt-ltb}
 use Rattle.imp.specs.Routine.{Arithmetic, number, variable, sum, pick, choiceᵃ, Boolean, falseᵇ, trueᵇ, notᵇ, andᵇ, less, choiceᵇ, Statement, skip, assign, sequence, if, while, throw, try, choice}
 use Rattle.imp.specs.Valid.{Validᵃ, Validᵇ, Valid}
-use Rattle.imp.specs.Theorem.Wrap.{low_fits}
+use Rattle.imp.proofs.Theorem.Wrap.{low_fits}
 use Rattle.image.specs.Layout.{kinds, layout, names_node, field_fits}
 use Rattle.image.specs.Encode.{termᵃ, termᵇ, termˢ}
 use Rattle.image.specs.Theorem.Fine.{term_class, own_number, own_kind, Fine}

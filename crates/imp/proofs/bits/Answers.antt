@@ -3,7 +3,7 @@ use Rattle.std.proofs.Common.{◌≡◌, ℕ, suc, true, false, ℤ, pos, negsuc
 use lib.Signed.{lt_z}
 use mir.Facts.{to_z_pos}
 use Rattle.imp.specs.Numbers.{low32}
-use Rattle.imp.specs.Theorem.Wrap.{low_fits, low_is}
+use Rattle.imp.proofs.Theorem.Wrap.{low_fits, low_is}
 use Rattle.imp.proofs.Laws.{in64, through64}
 use Rattle.imp.proofs.bits.Lts as lts
 use Rattle.imp.proofs.bits.Reads as reads

@@ -4,7 +4,7 @@ use lib.IntN.{sub_ℕ}
 use lib.Signed.{mag}
 use mir.Facts.{to_z_pos}
 use Rattle.imp.specs.Numbers.{signed32}
-use Rattle.imp.specs.Theorem.Wrap.{signed_is}
+use Rattle.imp.proofs.Theorem.Wrap.{signed_is}
 use Rattle.imp.proofs.Laws.{in64, through64}
 use Rattle.imp.proofs.signed.Lts as lts
 use Rattle.imp.proofs.signed.Reads as reads

@@ -1,7 +1,7 @@
 -- `imp::sum` meets its contract: the bits of a sum are the sum of the bits, modulo 2 ^ 32.
 use Rattle.std.proofs.Common.{ap, ◌∙◌, arith, to_z-of_z, w32}
 use Rattle.imp.specs.Numbers.{low32, signed32, wrap}
-use Rattle.imp.specs.Theorem.Wrap.{low_sum}
+use Rattle.imp.proofs.Theorem.Wrap.{low_sum}
 use Rattle.imp.proofs.sum.Goals as goal
 
 pub returns : goal.returns

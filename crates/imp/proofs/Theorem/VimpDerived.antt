@@ -9,10 +9,10 @@ use Rattle.imp.specs.Shared as Shared
 use Rattle.imp.specs.Shared.{Settings, any, Shared, shared, Below}
 use Rattle.imp.specs.Rules.Variational.{Sat, Unsat, ◌∩◌, Store, Frame, Stack, erring, in_error, Counts, World, world, ctx, counted, made_out, begun, seen}
 use Rattle.imp.specs.Rules.Figure58.{Judgement, ⇓V, ⇓VS, Vimp, V-SAT, V-UNSAT}
-use Rattle.imp.specs.Theorem.Sets.{and_true, any_false}
-use Rattle.imp.specs.Theorem.WhileShared.{left, begun_some, begun_none}
-use Rattle.imp.specs.Theorem.Live.{alive, was_alive, still, same_live}
-use Rattle.imp.specs.Theorem.VimpWorlds.{Within, ctx_alive, ctx_in, left_is, reached_is, passed_is}
+use Rattle.imp.proofs.Theorem.Sets.{and_true, any_false}
+use Rattle.imp.proofs.Theorem.WhileShared.{left, begun_some, begun_none}
+use Rattle.imp.proofs.Theorem.Live.{alive, was_alive, still, same_live}
+use Rattle.imp.proofs.Theorem.VimpWorlds.{Within, ctx_alive, ctx_in, left_is, reached_is, passed_is}
 
 -- every setting of P is in C
 abbrev pub Inside : Settings → Settings → Type 0

@@ -9,10 +9,10 @@ use Rattle.imp.specs.Routine.{Statement, skip, assign, sequence, if, while, thro
 use Rattle.imp.specs.Configure.{configure}
 use Rattle.imp.specs.State.{branch, State, live, ready, enter}
 use Rattle.imp.specs.Shared.{Settings, any, Shared, for, visited, where_true, begun, turns, shared, Below}
-use Rattle.imp.specs.Theorem.Sets.{same_cond, and_true}
-use Rattle.imp.specs.Theorem.Begin.{enter_dead}
-use Rattle.imp.specs.Theorem.ImpRun.{passes}
-use Rattle.imp.specs.Theorem.Agreement.{agrees}
+use Rattle.imp.proofs.Theorem.Sets.{same_cond, and_true}
+use Rattle.imp.proofs.Theorem.Begin.{enter_dead}
+use Rattle.imp.proofs.Theorem.ImpRun.{passes}
+use Rattle.imp.proofs.Theorem.Agreement.{agrees}
 
 abbrev pub alive : Shared → Settings
 alive Σ s = live (Σ.at s).outcome

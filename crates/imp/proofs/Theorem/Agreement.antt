@@ -10,7 +10,7 @@ use Rattle.imp.specs.State.{branch, Numbers, idle, State, in_fault, taken, ready
 use Rattle.imp.specs.Plain as Plain
 use Rattle.imp.specs.Plain.{value, truth, run, plain_run}
 use Rattle.imp.specs.Shared.{value_in, truth_in, Settings, any, Shared, for, visited, where_true, where_false, begun, turns, shared, start, shared_run}
-use Rattle.imp.specs.Theorem.Sets.{same_cond, any_false}
+use Rattle.imp.proofs.Theorem.Sets.{same_cond, any_false}
 
 -- ---- expressions
 

@@ -12,10 +12,10 @@ use Rattle.imp.specs.Plain.{truth, begun, turns, handled, run, plain_run}
 use Rattle.imp.specs.Rules.Figure42.{B⇓}
 use Rattle.imp.specs.Rules.Figure43.{Context, •, error, outcome_of, begins, S⇓, S-ERR, S-SKIP, S-ASSN, S-SEQ, S-IFT, S-IFB, S-WHILET, S-WHILEF, S-THROW, S-TRY, S-CATCH}
 use Rattle.imp.specs.Rules.CutOff.{C⇓, C-SPENT, C-SEQ1, C-SEQ2, C-IFT, C-IFB, C-WHILE1, C-WHILE2, C-TRY, C-CATCH}
-use Rattle.imp.specs.Theorem.Begin as Begin
-use Rattle.imp.specs.Theorem.Begin.{runs_out}
-use Rattle.imp.specs.Theorem.ImpExpressions.{derives_value, truth_is_derived}
-use Rattle.imp.specs.Theorem.ImpRun.{passes, turns_pass, derived, cut}
+use Rattle.imp.proofs.Theorem.Begin as Begin
+use Rattle.imp.proofs.Theorem.Begin.{runs_out}
+use Rattle.imp.proofs.Theorem.ImpExpressions.{derives_value, truth_is_derived}
+use Rattle.imp.proofs.Theorem.ImpRun.{passes, turns_pass, derived, cut}
 
 -- ---- what is run is derived, or cut off
 

@@ -9,8 +9,8 @@ use Rattle.imp.specs.State.{Numbers, Outcome, idle, done, fault, out, State, out
 use Rattle.imp.specs.Plain as Plain
 use Rattle.imp.specs.Plain.{handled, run}
 use Rattle.imp.specs.Shared.{any, Shared, for, visited, where_true, where_false, begun, turns, shared}
-use Rattle.imp.specs.Theorem.Clauses as Clauses
-use Rattle.imp.specs.Theorem.Clauses.{minus}
+use Rattle.imp.proofs.Theorem.Clauses as Clauses
+use Rattle.imp.proofs.Theorem.Clauses.{minus}
 
 -- opens all that a run computes with
 opened : Unit {0}

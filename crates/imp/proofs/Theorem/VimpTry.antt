@@ -9,11 +9,11 @@ use Rattle.imp.specs.State.{in_fault, taken}
 use Rattle.imp.specs.Shared.{Settings, Shared, for, where_true, shared, Below}
 use Rattle.imp.specs.Rules.Variational.{Store, update, Frame, Stack, erring, catch_ctx, extract, Counts, World, world, ctx, seen}
 use Rattle.imp.specs.Rules.Figure58.{⇓V, ⇓VS, Vimp, VS-TRY, VS-CATCH}
-use Rattle.imp.specs.Theorem.Sets.{and_true}
-use Rattle.imp.specs.Theorem.Live.{same_live, none_runs}
-use Rattle.imp.specs.Theorem.VimpWorlds.{Within, ctx_in}
-use Rattle.imp.specs.Theorem.VimpActs.{caught_is, taken_is, empty_frame, empty_ctx, nobody_caught}
-use Rattle.imp.specs.Theorem.VimpDerived.{Derived, Derives, Acts, within_below, ctx_within, live_same}
+use Rattle.imp.proofs.Theorem.Sets.{and_true}
+use Rattle.imp.proofs.Theorem.Live.{same_live, none_runs}
+use Rattle.imp.proofs.Theorem.VimpWorlds.{Within, ctx_in}
+use Rattle.imp.proofs.Theorem.VimpActs.{caught_is, taken_is, empty_frame, empty_ctx, nobody_caught}
+use Rattle.imp.proofs.Theorem.VimpDerived.{Derived, Derives, Acts, within_below, ctx_within, live_same}
 
 module _ (N b : ℕ) (D : Settings) (below : Below N D) (x y : Statement Condition) (v : ℕ)
     (C : Settings) (w : Within C D) (S : Store) (l : Frame) (E : Stack) (K : Counts) where

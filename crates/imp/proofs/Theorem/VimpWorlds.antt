@@ -9,8 +9,8 @@ use Rattle.imp.specs.State as State
 use Rattle.imp.specs.State.{Numbers, idle, done, fault, out, State, live, ready, spent, enter}
 use Rattle.imp.specs.Shared.{Settings, for, visited, where_true}
 use Rattle.imp.specs.Rules.Variational.{Store, Stack, in_error, conf_err, Counts, World, world, ctx, counted, made_out, begun, outcome_in, conf, seen}
-use Rattle.imp.specs.Theorem.Live.{alive}
-use Rattle.imp.specs.Theorem.WhileShared.{left, reached}
+use Rattle.imp.proofs.Theorem.Live.{alive}
+use Rattle.imp.proofs.Theorem.WhileShared.{left, reached}
 
 -- every setting of C is in D
 abbrev pub Within : Settings → Settings → Type 0

@@ -12,7 +12,7 @@ use Rattle.imp.specs.Rules.Figure43.{•, S⇓, S-ASSN, S-THROW, S-CATCH}
 use Rattle.imp.specs.Rules.CutOff.{C⇓, C-SPENT, C-CATCH}
 use Rattle.imp.specs.Rules.Figure56.{VA-NUM}
 use Rattle.imp.specs.Rules.Figure58.{⇓V, Vimp, V-SAT, V-UNSAT, VS-SKIP, VS-ASSN, VS-SEQ, VS-THROW, VS-CATCH, VS-CHC}
-use Rattle.imp.specs.Theorem.Clauses as Clauses
+use Rattle.imp.proofs.Theorem.Clauses as Clauses
 
 -- opens all that the rules compute with
 opened : Unit {0}

@@ -14,9 +14,9 @@ use Rattle.imp.specs.Rules.Variational.{World, at_start, conf, seen}
 use Rattle.imp.specs.Rules.Figure43.{Context, •, outcome_of, S⇓}
 use Rattle.imp.specs.Rules.CutOff.{C⇓}
 use Rattle.imp.specs.Rules.Figure58.{⇓V, Vimp}
-use Rattle.imp.specs.Theorem.Agreement.{agreement, outside_keeps}
-use Rattle.imp.specs.Theorem.ImpStatements.{run_is_derived, run_is_cut}
-use Rattle.imp.specs.Theorem.VimpStatements.{derived_is_shared}
+use Rattle.imp.proofs.Theorem.Agreement.{agreement, outside_keeps}
+use Rattle.imp.proofs.Theorem.ImpStatements.{run_is_derived, run_is_cut}
+use Rattle.imp.proofs.Theorem.VimpStatements.{derived_is_shared}
 
 -- Y is a world that Figure 5.8 derives of t for the set D from the given numbers, and s is a setting
 module _ (N b : ℕ) (D : Settings) (below : Below N D) (t : Statement Condition) (numbers : ℕ → Numbers) (Y : World)

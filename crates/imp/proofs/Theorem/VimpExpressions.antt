@@ -8,7 +8,7 @@ use Rattle.imp.specs.Routine.{Arithmetic, number, variable, sum, pick, choiceᵃ
 use Rattle.imp.specs.Shared.{Settings, any, value_in, truth_in}
 use Rattle.imp.specs.Rules.Variational.{Varied, Sat, Unsat, ◌∩◌, negation, one, choose, lift, lift2, Store, lookup, when_true, when_false}
 use Rattle.imp.specs.Rules.Figure56.{VA⇓, VA-NUM, VA-REF, VA-ADD, VA-CHC1, VA-CHC2, VA-CHC3, VA-PICK1, VA-PICK2, VA-PICK3, VB⇓, VB-FALSE, VB-TRUE, VB-NOT, VB-AND, VB-LESS, VB-CHC1, VB-CHC2, VB-CHC3}
-use Rattle.imp.specs.Theorem.Sets.{any_true, any_has}
+use Rattle.imp.proofs.Theorem.Sets.{any_true, any_has}
 
 -- ---- the derivation as a function
 

@@ -6,10 +6,10 @@ use Rattle.imp.specs.State.{Numbers, Outcome, done, fault, out, State, store, th
 use Rattle.imp.specs.Plain.{truth, turns, handled, run}
 use Rattle.imp.specs.Rules.Figure43.{Context, •, error, outcome_of, begins, S⇓, S-ERR, S-SKIP, S-ASSN, S-SEQ, S-IFT, S-IFB, S-WHILET, S-WHILEF, S-THROW, S-TRY, S-CATCH}
 use Rattle.imp.specs.Rules.CutOff.{C⇓, C-SPENT, C-SEQ1, C-SEQ2, C-IFT, C-IFB, C-WHILE1, C-WHILE2, C-TRY, C-CATCH}
-use Rattle.imp.specs.Theorem.Begin as Begin
-use Rattle.imp.specs.Theorem.Begin.{runs_out, begun_dead}
-use Rattle.imp.specs.Theorem.WhilePlain.{while_again}
-use Rattle.imp.specs.Theorem.ImpExpressions.{value_derived, truth_derived}
+use Rattle.imp.proofs.Theorem.Begin as Begin
+use Rattle.imp.proofs.Theorem.Begin.{runs_out, begun_dead}
+use Rattle.imp.proofs.Theorem.WhilePlain.{while_again}
+use Rattle.imp.proofs.Theorem.ImpExpressions.{value_derived, truth_derived}
 
 -- ---- what is not live passes a statement by
 

@@ -10,13 +10,13 @@ use Rattle.imp.specs.State.{branch, Numbers, Outcome, idle, done, fault, out, ou
 use Rattle.imp.specs.Plain as Plain
 use Rattle.imp.specs.Plain.{handled, run}
 use Rattle.imp.specs.Shared.{value_in, truth_in, Settings, Shared, for, visited, where_true, shared}
-use Rattle.imp.specs.Theorem.Sets.{same_cond}
-use Rattle.imp.specs.Theorem.Begin.{begun_yes, begun_no, begins, live_entered}
-use Rattle.imp.specs.Theorem.Agreement.{value_agrees, truth_agrees, agrees}
-use Rattle.imp.specs.Theorem.WhilePlain.{while_again}
-use Rattle.imp.specs.Theorem.WhileShared.{left, reached}
-use Rattle.imp.specs.Theorem.ImpRun.{passes, spent_out}
-use Rattle.imp.specs.Theorem.Live.{none_runs}
+use Rattle.imp.proofs.Theorem.Sets.{same_cond}
+use Rattle.imp.proofs.Theorem.Begin.{begun_yes, begun_no, begins, live_entered}
+use Rattle.imp.proofs.Theorem.Agreement.{value_agrees, truth_agrees, agrees}
+use Rattle.imp.proofs.Theorem.WhilePlain.{while_again}
+use Rattle.imp.proofs.Theorem.WhileShared.{left, reached}
+use Rattle.imp.proofs.Theorem.ImpRun.{passes, spent_out}
+use Rattle.imp.proofs.Theorem.Live.{none_runs}
 
 -- ---- what a handler does, by how the body has ended
 

@@ -8,7 +8,7 @@ use Rattle.imp.specs.Shared.{Settings}
 use Rattle.imp.specs.Rules.Variational.{Varied, Sat, Unsat, ◌∩◌, negation, Store, update, when_true, when_false, Error, Frame, Stack, catch_ctx, extract, Counts, World, world, ctx, made_out, begun}
 use Rattle.imp.specs.Rules.Figure56.{VA⇓, VB⇓}
 use Rattle.imp.specs.Rules.Figure58.{Judgement, ⇓V, ⇓VS, Vimp, V-SAT, V-UNSAT, VS-SKIP, VS-ASSN, VS-SEQ, VS-IF, VS-WHILE, VS-THROW, VS-TRY, VS-CATCH, VS-CHC}
-use Rattle.imp.specs.Theorem.VimpExpressions.{value_unique, truth_unique}
+use Rattle.imp.proofs.Theorem.VimpExpressions.{value_unique, truth_unique}
 
 -- the settings that X has live of C
 abbrev now : Settings → World → Settings

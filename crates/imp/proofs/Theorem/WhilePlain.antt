@@ -5,8 +5,8 @@ use Rattle.std.proofs.Common.{sym, ◌∙◌, arith}
 use Rattle.imp.specs.Routine.{Boolean, Statement, while}
 use Rattle.imp.specs.State.{branch, State, ready, enter}
 use Rattle.imp.specs.Plain.{truth, begun, turns, run}
-use Rattle.imp.specs.Theorem.Begin.{begun_yes, begun_no, ready_lt, enter_steps}
-use Rattle.imp.specs.Theorem.Keep.{grows}
+use Rattle.imp.proofs.Theorem.Begin.{begun_yes, begun_no, ready_lt, enter_steps}
+use Rattle.imp.proofs.Theorem.Keep.{grows}
 
 -- two acts that do the same once begun
 begun_same : (b : ℕ) (f g : State → State) (σ : State) → (ready b σ ≡ true → f (enter b σ) ≡ g (enter b σ)) → begun b f σ ≡ begun b g σ

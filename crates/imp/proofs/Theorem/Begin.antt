@@ -3,7 +3,7 @@ use Rattle.std.specs.Prelude.{◌≡◌, ℕ, suc, ◌<◌, ◌≤◌, Bool, tru
 use Rattle.std.proofs.Common.{ltb-true, lt-ltb, le-ltb}
 use Rattle.imp.specs.State.{Numbers, Outcome, idle, done, fault, out, State, live, ready, spent, enter, state}
 use Rattle.imp.specs.Plain.{begun}
-use Rattle.imp.specs.Theorem.Sets.{and_true}
+use Rattle.imp.proofs.Theorem.Sets.{and_true}
 
 pub begun_yes : (b : ℕ) (f : State → State) (σ : State) → ready b σ ≡ true → begun b f σ ≡ f (enter b σ)
 unfolding begun

@@ -11,11 +11,11 @@ use Rattle.imp.specs.State as State
 use Rattle.imp.specs.State.{Numbers, Outcome, out, State, code, ready, spent, enter, store, fresh, untouched}
 use Rattle.imp.specs.Plain.{value, truth, run, plain_run}
 use Rattle.imp.specs.Shared.{Settings, shared_run}
-use Rattle.imp.specs.Theorem.Wrap.{wrap_fits}
-use Rattle.imp.specs.Theorem.Begin.{ready_lt}
-use Rattle.imp.specs.Theorem.Configured.{configured_valid}
-use Rattle.imp.specs.Theorem.Agreement.{agreement, outside}
-use Rattle.imp.specs.Theorem.Keep.{Every, Whatever, whatever, run_keeps, length_kept}
+use Rattle.imp.proofs.Theorem.Wrap.{wrap_fits}
+use Rattle.imp.proofs.Theorem.Begin.{ready_lt}
+use Rattle.imp.proofs.Theorem.Configured.{configured_valid}
+use Rattle.imp.proofs.Theorem.Agreement.{agreement, outside}
+use Rattle.imp.proofs.Theorem.Keep.{Every, Whatever, whatever, run_keeps, length_kept}
 
 -- each number of a list is of 32 bits
 abbrev pub AllFit : Numbers → Type 0

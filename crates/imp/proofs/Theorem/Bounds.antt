@@ -8,8 +8,8 @@ use Rattle.imp.specs.Condition.{Condition}
 use Rattle.imp.specs.Routine.{Statement, skip, assign, sequence, if, while, throw, try, choice}
 use Rattle.imp.specs.State.{Numbers, State, store, thrown, taken, ready, enter, fresh, untouched}
 use Rattle.imp.specs.Shared.{Settings, any, Shared, for, visited, where_true, begun, turns, shared, start, shared_run, steps_at, total}
-use Rattle.imp.specs.Theorem.Sets.{any_false}
-use Rattle.imp.specs.Theorem.Agreement.{outside}
+use Rattle.imp.proofs.Theorem.Sets.{any_false}
+use Rattle.imp.proofs.Theorem.Agreement.{outside}
 
 -- from Σ to Σ' visits rise by at least each setting's steps and by at most the sum of all
 pub record Bounds (N : ℕ) (Σ Σ' : Shared) : Type 0 where

@@ -7,7 +7,7 @@ use Rattle.imp.specs.State as State
 use Rattle.imp.specs.State.{Numbers, idle, done, fault, out, State, in_fault, code, thrown, taken}
 use Rattle.imp.specs.Shared.{Settings, for, where_true}
 use Rattle.imp.specs.Rules.Variational.{Varied, Store, update, Frame, Stack, erring, in_error, catch_ctx, extract, conf_err, Counts, world, ctx, outcome_in, conf, seen}
-use Rattle.imp.specs.Theorem.VimpWorlds.{Within, ctx_in}
+use Rattle.imp.proofs.Theorem.VimpWorlds.{Within, ctx_in}
 
 module _ (D C : Settings) (w : Within C D) (S : Store) where
   -- assigning: the value n is each live setting's own

@@ -7,13 +7,13 @@ use Rattle.imp.specs.Routine.{Boolean, Statement, while}
 use Rattle.imp.specs.Shared.{Settings, Shared, truth_in, where_true, shared, steps_at, Below}
 use Rattle.imp.specs.Rules.Variational.{Sat, ◌∩◌, Store, when_true, Frame, Stack, Counts, World, world, ctx, counted, made_out, begun, conf, seen}
 use Rattle.imp.specs.Rules.Figure58.{⇓V, ⇓VS, VS-WHILE}
-use Rattle.imp.specs.Theorem.Sets.{any_true}
-use Rattle.imp.specs.Theorem.Begin.{ready_lt}
-use Rattle.imp.specs.Theorem.WhileShared.{left_in, while_again, shared_grows}
-use Rattle.imp.specs.Theorem.VimpExpressions.{truth_derives}
-use Rattle.imp.specs.Theorem.VimpWorlds.{Within, left_is}
-use Rattle.imp.specs.Theorem.VimpDerived.{Inside, part_in, Derived, Derives, showing, ctx_within, were_live, made_out_live, begins, in_turn}
-use Rattle.imp.specs.Theorem.VimpRules.{true_same, true_below}
+use Rattle.imp.proofs.Theorem.Sets.{any_true}
+use Rattle.imp.proofs.Theorem.Begin.{ready_lt}
+use Rattle.imp.proofs.Theorem.WhileShared.{left_in, while_again, shared_grows}
+use Rattle.imp.proofs.Theorem.VimpExpressions.{truth_derives}
+use Rattle.imp.proofs.Theorem.VimpWorlds.{Within, left_is}
+use Rattle.imp.proofs.Theorem.VimpDerived.{Inside, part_in, Derived, Derives, showing, ctx_within, were_live, made_out_live, begins, in_turn}
+use Rattle.imp.proofs.Theorem.VimpRules.{true_same, true_below}
 
 module _ (N b : ℕ) (D : Settings) (below : Below N D) where
   -- m tests more are enough for the live settings of C

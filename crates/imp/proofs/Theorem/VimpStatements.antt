@@ -9,11 +9,11 @@ use Rattle.imp.specs.State.{State, Numbers, idle, done, fresh, untouched}
 use Rattle.imp.specs.Shared.{Settings, shared, start, shared_run, Below}
 use Rattle.imp.specs.Rules.Variational.{erring, in_error, World, world, counted, nothing_yet, at_start, outcome_in, conf, seen}
 use Rattle.imp.specs.Rules.Figure58.{⇓V, Vimp}
-use Rattle.imp.specs.Theorem.VimpDerived.{Derives, begins}
-use Rattle.imp.specs.Theorem.VimpRules.{acts_skip, acts_assign, acts_throw, acts_sequence, acts_if, derives_choice}
-use Rattle.imp.specs.Theorem.VimpTry.{acts_try}
-use Rattle.imp.specs.Theorem.VimpWhile.{derives_while}
-use Rattle.imp.specs.Theorem.VimpUnique.{unique}
+use Rattle.imp.proofs.Theorem.VimpDerived.{Derives, begins}
+use Rattle.imp.proofs.Theorem.VimpRules.{acts_skip, acts_assign, acts_throw, acts_sequence, acts_if, derives_choice}
+use Rattle.imp.proofs.Theorem.VimpTry.{acts_try}
+use Rattle.imp.proofs.Theorem.VimpWhile.{derives_while}
+use Rattle.imp.proofs.Theorem.VimpUnique.{unique}
 
 module _ (N b : ℕ) (D : Settings) (below : Below N D) where
   derives : (t : Statement Condition) → Derives N b D below t

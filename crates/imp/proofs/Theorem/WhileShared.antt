@@ -8,10 +8,10 @@ use Rattle.imp.specs.Configure.{configure}
 use Rattle.imp.specs.State.{State, ready, enter}
 use Rattle.imp.specs.Plain.{run}
 use Rattle.imp.specs.Shared.{truth_in, Settings, any, Shared, for, visited, where_true, begun, turns, shared, steps_at}
-use Rattle.imp.specs.Theorem.Sets.{and_true, any_true}
-use Rattle.imp.specs.Theorem.Begin.{ready_lt, enter_steps}
-use Rattle.imp.specs.Theorem.Keep as Keep
-use Rattle.imp.specs.Theorem.Agreement.{agrees}
+use Rattle.imp.proofs.Theorem.Sets.{and_true, any_true}
+use Rattle.imp.proofs.Theorem.Begin.{ready_lt, enter_steps}
+use Rattle.imp.proofs.Theorem.Keep as Keep
+use Rattle.imp.proofs.Theorem.Agreement.{agrees}
 
 -- steps never fall
 pub record Grows (N : ℕ) (f : Settings → Shared → Shared) : Type 0 where

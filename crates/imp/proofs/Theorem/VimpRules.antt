@@ -9,12 +9,12 @@ use Rattle.imp.specs.State as State
 use Rattle.imp.specs.Shared.{Settings, any, Shared, value_in, truth_in, for, where_true, where_false, shared, Below}
 use Rattle.imp.specs.Rules.Variational.{Varied, ◌∩◌, negation, Store, update, when_true, when_false, Frame, Stack, erring, Counts, World, world, ctx, counted, made_out, begun, conf, seen}
 use Rattle.imp.specs.Rules.Figure58.{⇓V, V-SAT, V-UNSAT, VS-SKIP, VS-ASSN, VS-SEQ, VS-IF, VS-THROW, VS-CHC}
-use Rattle.imp.specs.Theorem.Sets.{and_true}
-use Rattle.imp.specs.Theorem.Live.{alive, same_live, none_runs}
-use Rattle.imp.specs.Theorem.VimpExpressions.{value_derives, truth_derives}
-use Rattle.imp.specs.Theorem.VimpWorlds.{Within}
-use Rattle.imp.specs.Theorem.VimpActs.{assigned_is, thrown_is}
-use Rattle.imp.specs.Theorem.VimpDerived.{part_in, Derived, Derives, Acts, within_below, ctx_within, none_live, live_same, in_turn}
+use Rattle.imp.proofs.Theorem.Sets.{and_true}
+use Rattle.imp.proofs.Theorem.Live.{alive, same_live, none_runs}
+use Rattle.imp.proofs.Theorem.VimpExpressions.{value_derives, truth_derives}
+use Rattle.imp.proofs.Theorem.VimpWorlds.{Within}
+use Rattle.imp.proofs.Theorem.VimpActs.{assigned_is, thrown_is}
+use Rattle.imp.proofs.Theorem.VimpDerived.{part_in, Derived, Derives, Acts, within_below, ctx_within, none_live, live_same, in_turn}
 
 module _ (N b : ℕ) (D : Settings) (below : Below N D) where
   pub acts_skip : Acts N b D below skip (λ left Σ. Σ)

@@ -10,7 +10,7 @@ use Rattle.imp.specs.State.{Numbers, idle, out, State, fresh, state}
 use Rattle.imp.specs.Plain.{plain_run}
 use Rattle.imp.specs.Rules.Figure43.{Context, •, error, outcome_of, S⇓}
 use Rattle.imp.specs.Rules.CutOff.{C⇓}
-use Rattle.imp.specs.Theorem.ImpStatements.{Ended, by_rule, cut_off, complete, not_out, run_is_derived, run_is_cut}
+use Rattle.imp.proofs.Theorem.ImpStatements.{Ended, by_rule, cut_off, complete, not_out, run_is_derived, run_is_cut}
 
 -- the run ends as Figure 4.3 derives within the budget: in this error context, with these numbers and steps
 pub record Derived (b : ℕ) (s : Statement ⊥) (S : Numbers) : Type 0 where
