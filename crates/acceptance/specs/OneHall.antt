@@ -5,7 +5,7 @@ use Rattle.std.proofs.Common.{sym, ◌∙◌, ap, true≢false}
 use Rattle.imp.specs.State.{Numbers}
 use Rattle.image.specs.Bytes.{Bytes}
 use Rattle.image.specs.Rows.{refused, numbers}
-use Rattle.image.specs.Theorem.Carried.{among, is_among}
+use Rattle.image.proofs.Theorem.Carried.{among, is_among}
 use Rattle.plain.specs.declared.PlainRun.{PlainRun}
 use Rattle.plain.specs.PlainRun.{hall_rows, plain_answer, RunsIn}
 use Rattle.acceptance.specs.InTurn.{Enough, InTurn}

@@ -28,7 +28,7 @@ use Rattle.image.specs.Term.{size, name, head_word, node_word, words, bytes_of, 
 use Rattle.image.specs.Encode.{termᵃ, termˢ, plain_image}
 use Rattle.configure.specs.declared.Configured.{Configured}
 use Rattle.configure.specs.Configured.{configured, space_rows, configure_rows, configure_answer, Configures}
-use Rattle.image.specs.Theorem.RoutineH.{H}
+use Rattle.image.proofs.Theorem.RoutineH.{H}
 use Rattle.configure.specs.Theorem.Vectors.{H-1}
 use Rattle.plain.specs.declared.progress.Progress.{Progress}
 use Rattle.plain.specs.declared.PlainRun.{PlainRun}

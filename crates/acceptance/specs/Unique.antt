@@ -12,7 +12,7 @@ use Rattle.image.specs.declared.conditions.ConditionSet.TheVariants.{Of}
 use Rattle.image.specs.declared.refusals.Refusal.{Refusal}
 use Rattle.image.specs.Bytes.{Bytes}
 use Rattle.image.specs.Inner.SetsOf.{TableOf}
-use Rattle.image.specs.Theorem.OneTable.{AllSmall, one_table}
+use Rattle.image.proofs.Theorem.OneTable.{AllSmall, one_table}
 use Rattle.image.specs.Check.{answer_of, shape_of}
 use Rattle.image.specs.Refusals.{number_of, place_of}
 use Rattle.image.specs.Rows.{judge, check_rows}

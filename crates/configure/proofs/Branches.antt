@@ -9,8 +9,8 @@ use lib.Seq.{sets}
 use Rattle.image.specs.Bytes.{Bytes}
 use Rattle.image.specs.Layout.{names_node}
 use Rattle.image.specs.Term.{term, Branch, size, branch_size, name, node_word, words, branch_words, bytes_of, all_bytes}
-use Rattle.image.specs.Theorem.Words.{length_all}
-use Rattle.image.specs.Theorem.Encoded.{length_branch, size_some}
+use Rattle.image.proofs.Theorem.Words.{length_all}
+use Rattle.image.proofs.Theorem.Encoded.{length_branch, size_some}
 use Rattle.configure.specs.Inner.Term.{hang, term_at}
 use Rattle.configure.specs.Inner.Writing.{Writing, Wrote, hung, SlotWriting, SlotWrote, named}
 use Rattle.image.proofs.Stores.{sets_app, bytes_app}

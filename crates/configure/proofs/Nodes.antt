@@ -16,10 +16,10 @@ use Rattle.image.specs.Records.{header, node}
 use Rattle.image.specs.Layout.{kinds, layout, a_digit, b_digit, c_digit, names_node, is_choice}
 use Rattle.image.specs.Rows.{node_fits}
 use Rattle.image.specs.Term.{term, Branch, size, branch_size, name, node_word, bytes_of}
-use Rattle.image.specs.Theorem.Lower.{fitted, lower}
+use Rattle.image.proofs.Theorem.Lower.{fitted, lower}
 use Rattle.image.specs.Inner.Lower.{Lower}
-use Rattle.image.specs.Theorem.Choosing.{choice_condition, choice_b, choice_c, chosen_is, chosen_lower}
-use Rattle.image.specs.Theorem.Listed.{by_test}
+use Rattle.image.proofs.Theorem.Choosing.{choice_condition, choice_b, choice_c, chosen_is, chosen_lower}
+use Rattle.image.proofs.Theorem.Listed.{by_test}
 use Rattle.configure.specs.Inner.Term.{term_at}
 use Rattle.configure.specs.Inner.Writing.{Writing, Wrote, hung, SlotWriting, SlotWrote, own_word, Ended}
 use Rattle.configure.specs.Theorem.Terms.{choice_term, node_term}

@@ -10,7 +10,7 @@ use Rattle.image.specs.Records.{header}
 use Rattle.image.specs.Rows.{answer, judge, written}
 use Rattle.image.specs.Term.{Term, size, head_word, words, bytes_of, all_bytes, term_image}
 use Rattle.image.specs.Accepted.{Accepted}
-use Rattle.image.specs.Theorem.Words.{length_bytes}
+use Rattle.image.proofs.Theorem.Words.{length_bytes}
 use Rattle.configure.specs.declared.Configured.TheVariants.{Length, Refused}
 use Rattle.image.specs.declared.refusals.Refusal.TheVariants.{SpaceShort}
 use Rattle.configure.specs.Inner.Term.{term_at}

@@ -8,7 +8,7 @@ use Rattle.image.specs.declared.refusals.Refusal.{Refusal}
 use Rattle.image.specs.Bytes.{Bytes}
 use Rattle.image.specs.Refusals.{number_of, place_of}
 use Rattle.image.specs.Rows.{Row, NoneFails}
-use Rattle.image.specs.Theorem.Carried.{carried, written_new, carried_again, refused_again}
+use Rattle.image.proofs.Theorem.Carried.{carried, written_new, carried_again, refused_again}
 use Rattle.plain.specs.declared.progress.Progress.{Progress}
 use Rattle.plain.specs.declared.PlainRun.{PlainRun}
 use Rattle.plain.specs.declared.PlainRun.TheVariants.{Ended, Refused}

@@ -5,7 +5,7 @@ use mathlib.Core.List.{List, ◌∷◌}
 use Prim.Native.Nat.{ℕ, ◌≤◌, ◌<◌}
 use borrow.Author.Tests.{lt-ltb, le-ltb}
 use Rattle.image.specs.Rows.{Row, refused, judge, lowest, lowest_row}
-use Rattle.image.specs.Theorem.Given.{judge_fails, judge_passes}
+use Rattle.image.proofs.Theorem.Given.{judge_fails, judge_passes}
 
 module _ {A : Type 0} (number n : ℕ) (bad : ℕ → Bool) (rows : List Row) (x : A) {k : ℕ} (is : k ≡ lowest n bad) where
   pub found : k < n → refused number k ≡ judge (lowest_row number n bad ∷ rows) x

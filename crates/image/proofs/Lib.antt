@@ -4,3 +4,4 @@ pub mod Counting
 pub mod Judged
 pub mod Searches
 pub mod Stores
+pub mod Theorem

@@ -5,7 +5,7 @@ use Prim.Native.Nat.{ℕ, ◌+◌, ◌≤◌, ◌<◌}
 use native.Mathlib.Omega.{arith}
 use borrow.Author.Count.{below_none, below_more}
 use Rattle.image.specs.Rows.{lowest}
-use Rattle.image.specs.Theorem.Lowest.{lowest_found, lowest_none}
+use Rattle.image.proofs.Theorem.Lowest.{lowest_found, lowest_none}
 
 -- the numbers below k are passed, and none of them is bad
 pub record Passed (n : ℕ) (bad : ℕ → Bool) (k : ℕ) : Type 0 where

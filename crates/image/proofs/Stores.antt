@@ -8,7 +8,7 @@ use lib.ListN.{length, set, drop}
 use lib.Seq.{sets, sets-eq, set_comm}
 use Rattle.image.specs.Bytes.{over}
 use Rattle.image.specs.Term.{bytes_of, all_bytes}
-use Rattle.image.specs.Theorem.Words.{length_bytes}
+use Rattle.image.proofs.Theorem.Words.{length_bytes}
 
 pub sets_app : (u v l : List ℕ) (i : ℕ) → sets l i (u ++ v) ≡ sets (sets l i u) (i + length u) v
 sets_app [] v l i = ap (λ k. sets l k v) (sym (add-zero i))

@@ -12,4 +12,3 @@ pub mod Sets
 pub mod Term
 pub mod Encode
 pub mod Inner
-pub mod Theorem

@@ -10,8 +10,8 @@ use Rattle.image.specs.Refusals.{number_of, place_of}
 use Rattle.image.specs.Rows.{refused, judge, check_rows}
 use Rattle.image.specs.Check.{shape_of}
 use Rattle.image.specs.Sets.{settings}
-use Rattle.image.specs.Theorem.Then.{judge_stops}
-use Rattle.image.specs.Theorem.Carried.{carried, written_new, carried_again, refused_again}
+use Rattle.image.proofs.Theorem.Then.{judge_stops}
+use Rattle.image.proofs.Theorem.Carried.{carried, written_new, carried_again, refused_again}
 use Rattle.shared.specs.declared.Ends.{Ends}
 use Rattle.shared.specs.declared.SharedRun.{SharedRun}
 use Rattle.shared.specs.declared.SharedRun.TheVariants.{Ended, Refused}

@@ -14,8 +14,8 @@ use Rattle.image.specs.Records.{header, condition_record}
 use Rattle.image.specs.Layout.{condition_layout}
 use Rattle.image.specs.Rows.{condition_fits}
 use Rattle.image.specs.Tree.{condition}
-use Rattle.image.specs.Theorem.ConditionHeld.{kind_below, left_below, right_below}
-use Rattle.image.specs.Theorem.Listed.{by_test}
+use Rattle.image.proofs.Theorem.ConditionHeld.{kind_below, left_below, right_below}
+use Rattle.image.proofs.Theorem.Listed.{by_test}
 use Rattle.written.specs.Lister.{listedᶜ}
 use Rattle.listing.specs.Inner.Spelling.{condition_spelling, DOT, plainly, stands, spell}
 use Rattle.listing.specs.Inner.Texts.{condition_text, named, condition_parts}

@@ -16,9 +16,9 @@ use Rattle.image.specs.Records.{header, condition_record, node}
 use Rattle.image.specs.Layout.{kinds, layout, a_digit, b_digit, c_digit, names_node, condition_layout, field_fits}
 use Rattle.image.specs.Rows.{node_fits, slot_fits}
 use Rattle.image.specs.Tree.{condition}
-use Rattle.image.specs.Theorem.Lower.{fitted, Fitted, lower}
-use Rattle.image.specs.Theorem.ConditionHeld.{left_below, right_below}
-use Rattle.image.specs.Theorem.Listed.{by_test}
+use Rattle.image.proofs.Theorem.Lower.{fitted, Fitted, lower}
+use Rattle.image.proofs.Theorem.ConditionHeld.{left_below, right_below}
+use Rattle.image.proofs.Theorem.Listed.{by_test}
 use Rattle.written.specs.Count.{sizeᶜ}
 use Rattle.listing.specs.Inner.Counting.{capped, Sizing, node_records, field_records, Counting, Field}
 use Rattle.listing.specs.Theorem.Counted.{held, node_counted, named_size, condition_sized}

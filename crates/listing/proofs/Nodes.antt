@@ -14,9 +14,9 @@ use Rattle.image.specs.Records.{header, node}
 use Rattle.image.specs.Layout.{layout, a_digit, b_digit, c_digit, names_node, is_choice}
 use Rattle.image.specs.Tree.{read}
 use Rattle.image.specs.Inner.Lower.{Lower}
-use Rattle.image.specs.Theorem.Lower.{lower}
-use Rattle.image.specs.Theorem.Choosing.{choice_condition}
-use Rattle.image.specs.Theorem.Listed.{by_test}
+use Rattle.image.proofs.Theorem.Lower.{lower}
+use Rattle.image.proofs.Theorem.Choosing.{choice_condition}
+use Rattle.image.proofs.Theorem.Listed.{by_test}
 use Rattle.listing.specs.Inner.Spelling.{spelling, DOT, plainly, stands, spell}
 use Rattle.listing.specs.Inner.Texts.{node_text, all_short, field_text, node_parts, parts_at, condition_text}
 use Rattle.listing.specs.Inner.Listing.{asks, reach, Listing, Signing, ConditionListing}

@@ -8,7 +8,7 @@ use lib.Dec.{eqb}
 use lib.ListN.{length, get_or, take, length-append}
 use borrow.Author.Tests.{eqb-true}
 use Rattle.image.specs.Bytes.{Bytes}
-use Rattle.image.specs.Theorem.Listed.{by_test}
+use Rattle.image.proofs.Theorem.Listed.{by_test}
 use Rattle.text.specs.Inner.Puts.{Puts}
 use Rattle.text.proofs.Putting.{then, same}
 use Rattle.listing.specs.Inner.Spelling.{DOT, Parts, stands, spell}

@@ -9,7 +9,7 @@ use borrow.Author.Tests.{eq-eqb, ne_eqb, lt-ltb, le-ltb}
 use Rattle.imp.specs.Routine.{Statement, skip, assign, sequence, if, while, throw, try, choice}
 use Rattle.imp.specs.State.{Numbers, State, outcome_number, code, live, in_fault, ready, spent, enter}
 use Rattle.imp.specs.Plain.{begun, turns, run}
-use Rattle.imp.specs.Theorem.Begin.{begun_yes, begun_no, live_entered, enter_dead, enter_steps, ready_lt}
+use Rattle.imp.proofs.Theorem.Begin.{begun_yes, begun_no, live_entered, enter_dead, enter_steps, ready_lt}
 use Rattle.plain.specs.declared.progress.Progress.{Progress}
 use Rattle.plain.specs.Inner.Progress.{outcome_from, state_of, Proper}
 use Rattle.plain.specs.Inner.Running.{Began}

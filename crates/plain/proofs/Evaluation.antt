@@ -24,11 +24,11 @@ use Rattle.image.specs.Layout.{kinds, layout, class_digit, a_digit, b_digit, c_d
 use Rattle.image.specs.Rows.{node_fits, class, classed}
 use Rattle.image.specs.Tree.{condition, read}
 use Rattle.image.specs.Accepted.{Accepted}
-use Rattle.image.specs.Theorem.Choosing.{choice_condition, chosen_is}
-use Rattle.image.specs.Theorem.Held.{Child, child_a, child_b, child_c, variable_below}
-use Rattle.image.specs.Theorem.Kinds.{kind_cases}
-use Rattle.image.specs.Theorem.Lower.{both}
-use Rattle.image.specs.Theorem.Reading.{number_at, variable_at, sum_at, pick_at, choiceᵃ_at, falseᵇ_at, trueᵇ_at, notᵇ_at, andᵇ_at, less_at, choiceᵇ_at}
+use Rattle.image.proofs.Theorem.Choosing.{choice_condition, chosen_is}
+use Rattle.image.proofs.Theorem.Held.{Child, child_a, child_b, child_c, variable_below}
+use Rattle.image.proofs.Theorem.Kinds.{kind_cases}
+use Rattle.image.proofs.Theorem.Lower.{both}
+use Rattle.image.proofs.Theorem.Reading.{number_at, variable_at, sum_at, pick_at, choiceᵃ_at, falseᵇ_at, trueᵇ_at, notᵇ_at, andᵇ_at, less_at, choiceᵇ_at}
 use Rattle.plain.specs.Inner.Evaluating.{Evaluating}
 
 -- a kind of class 1 is 0 to 4, one of class 2 is 8 to 13, one of class 3 is 16 to 23

@@ -11,13 +11,13 @@ use Rattle.imp.specs.Routine.{while}
 use Rattle.imp.specs.State.{Numbers, State, branch}
 use Rattle.imp.specs.Plain.{begun, run}
 use Rattle.imp.specs.Shared.{truth_in}
-use Rattle.imp.specs.Theorem.Agreement.{truth_agrees}
-use Rattle.imp.specs.Theorem.Begin.{begun_yes, begun_no}
-use Rattle.imp.specs.Theorem.Keep.{grows}
-use Rattle.imp.specs.Theorem.WhilePlain.{while_again}
+use Rattle.imp.proofs.Theorem.Agreement.{truth_agrees}
+use Rattle.imp.proofs.Theorem.Begin.{begun_yes, begun_no}
+use Rattle.imp.proofs.Theorem.Keep.{grows}
+use Rattle.imp.proofs.Theorem.WhilePlain.{while_again}
 use Rattle.image.specs.Bytes.{Bytes}
 use Rattle.image.specs.Tree.{read}
-use Rattle.image.specs.Theorem.Lower.{both}
+use Rattle.image.proofs.Theorem.Lower.{both}
 use Rattle.plain.specs.declared.progress.Progress.{Progress}
 use Rattle.plain.specs.Inner.Progress.{state_of, Proper}
 use Rattle.plain.specs.Inner.Running.{Began, Ran, turning}

@@ -21,8 +21,8 @@ use Rattle.image.specs.Check.{shape_of}
 use Rattle.image.specs.Sets.{settings, setting_row}
 use Rattle.image.specs.Tree.{read, routine}
 use Rattle.image.specs.Accepted.{Accepted}
-use Rattle.image.specs.Theorem.Accepted.{accepts}
-use Rattle.image.specs.Theorem.Then.{judge_then, judge_stops, written_then, written_stops}
+use Rattle.image.proofs.Theorem.Accepted.{accepts}
+use Rattle.image.proofs.Theorem.Then.{judge_then, judge_stops, written_then, written_stops}
 use Rattle.plain.specs.declared.progress.Progress.{Progress}
 use Rattle.plain.specs.declared.PlainRun.{PlainRun}
 use Rattle.plain.specs.declared.PlainRun.TheVariants.{Ended, Refused}

@@ -15,15 +15,15 @@ use Rattle.imp.specs.Routine.{Statement}
 use Rattle.imp.specs.State.{Numbers, State, done, branch, store, thrown, taken}
 use Rattle.imp.specs.Plain.{truth, handled, run}
 use Rattle.imp.specs.Shared.{value_in, truth_in}
-use Rattle.imp.specs.Theorem.Agreement.{value_agrees, truth_agrees}
-use Rattle.imp.specs.Theorem.WhilePlain.{while_again}
+use Rattle.imp.proofs.Theorem.Agreement.{value_agrees, truth_agrees}
+use Rattle.imp.proofs.Theorem.WhilePlain.{while_again}
 use Rattle.image.specs.declared.records.Node.{Node}
 use Rattle.image.specs.Bytes.{Bytes}
 use Rattle.image.specs.Records.{header, node}
 use Rattle.image.specs.Layout.{kinds, layout, variable_digit, names_node, is_choice}
 use Rattle.image.specs.Tree.{condition, read}
-use Rattle.image.specs.Theorem.Held.{variable_below}
-use Rattle.image.specs.Theorem.Reading.{skip_at, assign_at, sequence_at, if_at, while_at, throw_at, try_at, choice_at}
+use Rattle.image.proofs.Theorem.Held.{variable_below}
+use Rattle.image.proofs.Theorem.Reading.{skip_at, assign_at, sequence_at, if_at, while_at, throw_at, try_at, choice_at}
 use Rattle.plain.specs.declared.progress.Progress.{Progress}
 use Rattle.plain.specs.Inner.Evaluating.{Evaluating}
 use Rattle.plain.specs.Inner.Progress.{outcome_from, state_of, Proper}

@@ -3,12 +3,12 @@ use mathlib.Core.Path.{◌≡◌, refl, sym, ap}
 use Prim.Native.Nat.{ℕ, suc, ◌+◌, ◌-◌, ◌^◌, ◌<◌}
 use mathlib.Core.List.{List, ◌∷◌}
 use native.Mathlib.Omega.{arith}
-use Rattle.imp.specs.Theorem.Wrap.{low_signed}
+use Rattle.imp.proofs.Theorem.Wrap.{low_signed}
 use Rattle.image.specs.Layout.{kinds, layout, class_digit}
 use Rattle.image.specs.Listing.{sizeᵃ, sizeᵇ, sizeˢ}
 use Rattle.image.specs.Term.{node_word}
 use Rattle.image.specs.Tree.{kind_of}
-use Rattle.image.specs.Theorem.Kinds.{kind_cases}
+use Rattle.image.proofs.Theorem.Kinds.{kind_cases}
 use Rattle.written.specs.Count.{sizeᶜ, recordsᵃ, recordsᵇ, recordsˢ}
 use Rattle.written.specs.Image.{wordsᶜ, choicesᵃ, choicesᵇ, choicesˢ, nodesᵃ, nodesᵇ, nodesˢ}
 use Rattle.reading.specs.Inner.Parts.{Part, slot_of, a_slot, b_slot, c_slot, own_slot, made_of}

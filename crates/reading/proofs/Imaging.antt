@@ -8,7 +8,7 @@ use lib.Seq.{sets, length-sets, length-take-le, take-suc}
 use Rattle.image.specs.declared.refusals.Refusal.TheVariants.{SpaceShort}
 use Rattle.image.specs.Bytes.{Bytes, over}
 use Rattle.image.specs.Term.{head_word, bytes_of, all_bytes}
-use Rattle.image.specs.Theorem.Words.{length_bytes, length_all}
+use Rattle.image.proofs.Theorem.Words.{length_bytes, length_all}
 use Rattle.image.proofs.Stores.{sets_app, over_is}
 use Rattle.written.specs.Image.{record_bytes}
 use Rattle.written.specs.Theorem.ImageRead.{length_records}

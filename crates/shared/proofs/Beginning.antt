@@ -13,9 +13,9 @@ use Rattle.sets.specs.declared.Set.{Set}
 use Rattle.sets.specs.Member.{bit, members}
 use Rattle.imp.specs.State.{ready, enter}
 use Rattle.imp.specs.Shared.{Settings, any, for, visited, where_true, shared}
-use Rattle.imp.specs.Theorem.Begin.{ready_lt}
-use Rattle.imp.specs.Theorem.Sets.{and_true, any_true}
-use Rattle.imp.specs.Theorem.WhileShared.{left, reached, begun_some, begun_none}
+use Rattle.imp.proofs.Theorem.Begin.{ready_lt}
+use Rattle.imp.proofs.Theorem.Sets.{and_true, any_true}
+use Rattle.imp.proofs.Theorem.WhileShared.{left, reached, begun_some, begun_none}
 use Rattle.plain.specs.declared.progress.Progress.{Progress}
 use Rattle.plain.specs.Inner.Progress.{state_of}
 use Rattle.plain.specs.Inner.Running.{Began}

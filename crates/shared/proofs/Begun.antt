@@ -6,8 +6,8 @@ use Rattle.imp.specs.Condition.{Condition, holds}
 use Rattle.imp.specs.Routine.{Statement, skip, assign, sequence, if, while, throw, try, choice}
 use Rattle.imp.specs.State.{branch, State, ready, enter}
 use Rattle.imp.specs.Shared.{Settings, any, Shared, for, visited, where_true, begun, turns, shared}
-use Rattle.imp.specs.Theorem.Sets.{any_false, any_true}
-use Rattle.imp.specs.Theorem.WhileShared.{left, begun_some, begun_none}
+use Rattle.imp.proofs.Theorem.Sets.{any_false, any_true}
+use Rattle.imp.proofs.Theorem.WhileShared.{left, begun_some, begun_none}
 
 -- a part of a set in which none is ready: none of the part is, and its beginning after the rest's is the beginning of all
 parted : (u c r : Bool) → u && r ≡ false → (u && c) && r ≡ false

@@ -20,7 +20,7 @@ use Rattle.image.specs.Rows.{answer, judge, written}
 use Rattle.image.specs.Sets.{settings}
 use Rattle.image.specs.Inner.SetsOf.{SetsOf}
 use Rattle.image.specs.Tree.{routine}
-use Rattle.image.specs.Theorem.Held.{root_class}
+use Rattle.image.proofs.Theorem.Held.{root_class}
 use Rattle.shared.specs.declared.plan.Plan.{Plan}
 use Rattle.shared.specs.declared.SharedRun.TheVariants.{Ended}
 use Rattle.shared.specs.Lent.{Tally, part}

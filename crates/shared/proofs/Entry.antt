@@ -13,8 +13,8 @@ use Rattle.sets.specs.declared.Set.{Set}
 use Rattle.sets.specs.Member.{bit, members}
 use Rattle.sets.proofs.Laws.{bit_past}
 use Rattle.imp.specs.Shared.{any, beyond, Below}
-use Rattle.imp.specs.Theorem.Sets.{and_true, any_true, any_has}
-use Rattle.imp.specs.Theorem.Beyond.{beyond_is, not_beyond}
+use Rattle.imp.proofs.Theorem.Sets.{and_true, any_true, any_has}
+use Rattle.imp.proofs.Theorem.Beyond.{beyond_is, not_beyond}
 use Rattle.image.specs.declared.accept.Shape.{Shape}
 use Rattle.image.specs.declared.refusals.Refusal.{Refusal}
 use Rattle.image.specs.declared.refusals.Refusal.TheVariants.{SetBeyond, BudgetOver, LentWrong}
@@ -24,8 +24,8 @@ use Rattle.image.specs.Refusals.{number_of, place_of}
 use Rattle.image.specs.Rows.{Row, refused, judge, written, check_rows}
 use Rattle.image.specs.Sets.{settings}
 use Rattle.image.specs.Accepted.{Accepted}
-use Rattle.image.specs.Theorem.Accepted.{accepts}
-use Rattle.image.specs.Theorem.Then.{judge_then, judge_stops, written_then, written_stops}
+use Rattle.image.proofs.Theorem.Accepted.{accepts}
+use Rattle.image.proofs.Theorem.Then.{judge_then, judge_stops, written_then, written_stops}
 use Rattle.shared.specs.declared.SharedRun.{SharedRun}
 use Rattle.shared.specs.declared.SharedRun.TheVariants.{Refused}
 use Rattle.shared.specs.Lent.{Tally}

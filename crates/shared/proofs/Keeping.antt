@@ -14,12 +14,12 @@ use Rattle.imp.specs.Configure.{configure}
 use Rattle.imp.specs.State.{State, ready, enter}
 use Rattle.imp.specs.Plain.{run}
 use Rattle.imp.specs.Shared.{Settings, any, Shared, for, where_true, shared, total, steps_at}
-use Rattle.imp.specs.Theorem.Sets.{and_true, any_has}
-use Rattle.imp.specs.Theorem.Agreement.{agrees}
-use Rattle.imp.specs.Theorem.Begin.{enter_steps}
-use Rattle.imp.specs.Theorem.Bounds.{bounded}
-use Rattle.imp.specs.Theorem.Range.{run_steps}
-use Rattle.imp.specs.Theorem.WhileShared.{shared_grows}
+use Rattle.imp.proofs.Theorem.Sets.{and_true, any_has}
+use Rattle.imp.proofs.Theorem.Agreement.{agrees}
+use Rattle.imp.proofs.Theorem.Begin.{enter_steps}
+use Rattle.imp.proofs.Theorem.Bounds.{bounded}
+use Rattle.imp.proofs.Theorem.Range.{run_steps}
+use Rattle.imp.proofs.Theorem.WhileShared.{shared_grows}
 use Rattle.image.specs.Bytes.{Bytes}
 use Rattle.plain.specs.Inner.Progress.{state_of}
 use Rattle.shared.specs.declared.plan.Plan.{Plan}

@@ -11,9 +11,9 @@ use Rattle.sets.specs.declared.Set.{Set}
 use Rattle.sets.specs.Member.{bit, members}
 use Rattle.imp.specs.Routine.{while, skip}
 use Rattle.imp.specs.Shared.{Settings, any, Shared, where_true, shared, Below}
-use Rattle.imp.specs.Theorem.Sets.{and_true, any_false, any_true}
-use Rattle.imp.specs.Theorem.Live.{none_runs}
-use Rattle.imp.specs.Theorem.WhileShared.{left, while_again}
+use Rattle.imp.proofs.Theorem.Sets.{and_true, any_false, any_true}
+use Rattle.imp.proofs.Theorem.Live.{none_runs}
+use Rattle.imp.proofs.Theorem.WhileShared.{left, while_again}
 use Rattle.image.specs.declared.records.Node.{Node}
 use Rattle.image.specs.Bytes.{Bytes}
 use Rattle.image.specs.Tree.{read}

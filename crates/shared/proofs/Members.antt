@@ -9,7 +9,7 @@ use borrow.Author.Tests.{eqb-true, eqb-false, eq-eqb, ne_eqb}
 use Rattle.sets.specs.Member.{digit, bit, members}
 use Rattle.sets.specs.Digits.{digit_lt}
 use Rattle.imp.specs.Shared.{any, Below}
-use Rattle.imp.specs.Theorem.Sets.{any_true, any_false}
+use Rattle.imp.proofs.Theorem.Sets.{any_true, any_false}
 
 -- a setting of the first k is counted, and where none is, none is counted
 counts : (n k s : ℕ) → s < k → bit n s ≡ true → 0 < members n k

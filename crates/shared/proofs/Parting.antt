@@ -10,7 +10,7 @@ use lib.Pow.{pow_pos}
 use Rattle.sets.specs.declared.Set.{Set}
 use Rattle.sets.specs.Member.{bit}
 use Rattle.imp.specs.Shared.{Settings, Shared, Below}
-use Rattle.imp.specs.Theorem.Sets.{and_true}
+use Rattle.imp.proofs.Theorem.Sets.{and_true}
 use Rattle.image.specs.declared.records.Node.{Node}
 use Rattle.image.specs.Bytes.{Bytes}
 use Rattle.image.specs.Inner.Ready.{Ready}

@@ -9,7 +9,7 @@ use Rattle.imp.specs.Condition.{Condition}
 use Rattle.imp.specs.Routine.{Statement}
 use Rattle.imp.specs.State.{State, store, thrown, taken}
 use Rattle.imp.specs.Shared.{Settings, Shared, for, begun, shared}
-use Rattle.imp.specs.Theorem.WhileShared.{while_again}
+use Rattle.imp.proofs.Theorem.WhileShared.{while_again}
 use Rattle.image.specs.declared.records.Node.{Node}
 use Rattle.image.specs.Bytes.{Bytes}
 use Rattle.image.specs.Records.{header, node}
@@ -17,10 +17,10 @@ use Rattle.image.specs.Layout.{kinds, layout, class_digit, variable_digit, a_dig
 use Rattle.image.specs.Rows.{node_fits, class, classed}
 use Rattle.image.specs.Tree.{read}
 use Rattle.image.specs.Accepted.{Accepted}
-use Rattle.image.specs.Theorem.Choosing.{choice_condition}
-use Rattle.image.specs.Theorem.Kinds.{kind_cases}
-use Rattle.image.specs.Theorem.Held.{Child, child_a, child_b, child_c, variable_below}
-use Rattle.image.specs.Theorem.Reading.{skip_at, assign_at, sequence_at, if_at, while_at, throw_at, try_at, choice_at}
+use Rattle.image.proofs.Theorem.Choosing.{choice_condition}
+use Rattle.image.proofs.Theorem.Kinds.{kind_cases}
+use Rattle.image.proofs.Theorem.Held.{Child, child_a, child_b, child_c, variable_below}
+use Rattle.image.proofs.Theorem.Reading.{skip_at, assign_at, sequence_at, if_at, while_at, throw_at, try_at, choice_at}
 use Rattle.shared.specs.declared.plan.Plan.{Plan}
 use Rattle.shared.specs.Inner.Prepared.{OfClass}
 use Rattle.shared.specs.Inner.Acting.{acting}

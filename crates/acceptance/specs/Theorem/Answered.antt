@@ -8,8 +8,8 @@ use Rattle.imp.specs.Shared.{Shared}
 use Rattle.image.specs.Bytes.{Bytes}
 use Rattle.image.specs.Rows.{Row, Answer, refused, answer, judge, written, check_rows, NoneFails}
 use Rattle.image.specs.Sets.{settings}
-use Rattle.image.specs.Theorem.Given.{answered, carried_out}
-use Rattle.image.specs.Theorem.Carried.{none_each, none_both, written_new}
+use Rattle.image.proofs.Theorem.Given.{answered, carried_out}
+use Rattle.image.proofs.Theorem.Carried.{none_each, none_both, written_new}
 use Rattle.shared.specs.declared.Ends.{Ends}
 use Rattle.shared.specs.declared.SharedRun.TheVariants as Shared
 use Rattle.shared.specs.Lent.{Tally}

@@ -2,8 +2,8 @@
 use Rattle.std.specs.Prelude.{◌≡◌, refl, List, ◌↔◌, ◌⊎◌, ℕ}
 use Rattle.std.proofs.Common.{sym, ◌∙◌, ap, inl, inr}
 use Rattle.image.specs.Rows.{Row, Answer, refused, answer, judge, written, NoneFails, Given}
-use Rattle.image.specs.Theorem.Given.{refused_given, answered, by_answer, written_as_judged}
-use Rattle.image.specs.Theorem.Given as Table
+use Rattle.image.proofs.Theorem.Given.{refused_given, answered, by_answer, written_as_judged}
+use Rattle.image.proofs.Theorem.Given as Table
 
 module _ {A : Type 0} (rows : List Row) (x : A) {a : Answer A} (judged : a ≡ judge rows x) where
   pub refusal_is : (n p : ℕ) → (a ≡ refused n p) ↔ Given rows n p

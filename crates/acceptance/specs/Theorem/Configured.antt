@@ -9,10 +9,10 @@ use borrow.Author.Tests.{lt-ltb, le-ltb, ltb-true, not-false}
 use Rattle.image.specs.Bytes.{Bytes, over}
 use Rattle.image.specs.Rows.{Row, answer, check_rows, NoneFails}
 use Rattle.image.specs.Sets.{settings}
-use Rattle.image.specs.Theorem.Given.{answered, carried_out}
+use Rattle.image.proofs.Theorem.Given.{answered, carried_out}
 use Rattle.image.specs.Accepted.{Accepted}
-use Rattle.image.specs.Theorem.Accepted.{all_passed, accepts}
-use Rattle.image.specs.Theorem.Carried.{none_each, none_both, carried, written_new}
+use Rattle.image.proofs.Theorem.Accepted.{all_passed, accepts}
+use Rattle.image.proofs.Theorem.Carried.{none_each, none_both, carried, written_new}
 use Rattle.configure.specs.declared.Configured.{Configured}
 use Rattle.configure.specs.declared.Configured.TheVariants.{Length, Refused}
 use Rattle.configure.specs.Configured.{configured, space_rows, configure_rows, configure_answer, Configures}

@@ -7,10 +7,10 @@ use Rattle.imp.specs.State.{Numbers, State}
 use Rattle.image.specs.Bytes.{Bytes}
 use Rattle.image.specs.Rows.{Row, answer, check_rows, NoneFails}
 use Rattle.image.specs.Sets.{settings}
-use Rattle.image.specs.Theorem.Given.{answered, carried_out}
+use Rattle.image.proofs.Theorem.Given.{answered, carried_out}
 use Rattle.image.specs.Accepted.{Accepted}
-use Rattle.image.specs.Theorem.Accepted.{accepts}
-use Rattle.image.specs.Theorem.Carried.{none_both, written_new}
+use Rattle.image.proofs.Theorem.Accepted.{accepts}
+use Rattle.image.proofs.Theorem.Carried.{none_both, written_new}
 use Rattle.plain.specs.declared.progress.Progress.{Progress}
 use Rattle.plain.specs.declared.PlainRun.{PlainRun}
 use Rattle.plain.specs.declared.PlainRun.TheVariants.{Ended, Refused}

@@ -13,8 +13,8 @@ use Rattle.image.specs.Bytes.{Bytes}
 use Rattle.image.specs.Rows.{Row, NoneFails}
 use Rattle.image.specs.Sets.{settings}
 use Rattle.image.specs.Accepted.{Accepted}
-use Rattle.image.specs.Theorem.Given.{carried_out}
-use Rattle.image.specs.Theorem.Carried.{carried, written_new}
+use Rattle.image.proofs.Theorem.Given.{carried_out}
+use Rattle.image.proofs.Theorem.Carried.{carried, written_new}
 use Rattle.plain.specs.declared.PlainRun.TheVariants as Plain
 use Rattle.plain.specs.PlainRun.{meant_in, progress_of, hall_rows, RunsIn}
 use Rattle.shared.specs.declared.Ends.{Ends}

@@ -16,10 +16,10 @@ use Rattle.image.specs.Rows.{Row, refused, judge, written, check_rows, NoneFails
 use Rattle.image.specs.Sets.{settings, setting_row}
 use Rattle.image.specs.Tree.{routine}
 use Rattle.image.specs.Accepted.{Accepted}
-use Rattle.image.specs.Theorem.Accepted.{all_passed, accepts}
-use Rattle.image.specs.Theorem.Given.{judge_passes, by_answer, written_as_judged}
-use Rattle.image.specs.Theorem.Then.{judge_then}
-use Rattle.image.specs.Theorem.Carried.{none_each, refused_alike}
+use Rattle.image.proofs.Theorem.Accepted.{all_passed, accepts}
+use Rattle.image.proofs.Theorem.Given.{judge_passes, by_answer, written_as_judged}
+use Rattle.image.proofs.Theorem.Then.{judge_then}
+use Rattle.image.proofs.Theorem.Carried.{none_each, refused_alike}
 use Rattle.configure.specs.declared.Configured.TheVariants as Configuring
 use Rattle.configure.specs.Configured.{configured, space_rows, configure_rows, Configures}
 use Rattle.configure.specs.Theorem.Result.{shape_is, passes, tree_is}

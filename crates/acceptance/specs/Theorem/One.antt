@@ -16,7 +16,7 @@ use Rattle.image.specs.Check.{answer_of}
 use Rattle.image.specs.Refusals.{number_of, place_of}
 use Rattle.image.specs.Rows.{Answer, refused, answer}
 use Rattle.image.specs.Sets.{set_answer}
-use Rattle.image.specs.Theorem.One.{refusal_from, refusal_known, same_refusal}
+use Rattle.image.proofs.Theorem.One.{refusal_from, refusal_known, same_refusal}
 use Rattle.reading.specs.declared.write.ReadText.{ReadText}
 use Rattle.reading.specs.declared.write.ReadText.TheVariants.{Length as ReadLength, Refused as ReadRefused}
 use Rattle.reading.specs.Reads.{read_answer}

@@ -4,7 +4,7 @@ use Rattle.std.specs.Prelude.{Bool, List, [], ◌∷◌, ◌++◌, ℕ, ◌^◌,
 use Rattle.image.specs.Bytes.{Bytes}
 use Rattle.image.specs.Records.{header}
 use Rattle.image.specs.Rows.{Row, lowest, check_rows, Given}
-use Rattle.image.specs.Theorem.Lowest.{lowest_le}
+use Rattle.image.proofs.Theorem.Lowest.{lowest_le}
 use Rattle.shared.specs.SharedRun.{set_rows, shared_rows}
 use Rattle.lines.specs.Text.{run_rows, report_rows}
 

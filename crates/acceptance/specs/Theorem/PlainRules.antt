@@ -14,9 +14,9 @@ use Rattle.image.specs.Layout.{is_choice}
 use Rattle.image.specs.Rows.{Row, lowest, check_rows, NoneFails}
 use Rattle.image.specs.Tree.{routine}
 use Rattle.image.specs.Accepted.{Accepted}
-use Rattle.image.specs.Theorem.Accepted.{all_passed}
-use Rattle.image.specs.Theorem.Lowest.{lowest_good}
-use Rattle.image.specs.Theorem.Carried.{none_each, carried, written_new}
+use Rattle.image.proofs.Theorem.Accepted.{all_passed}
+use Rattle.image.proofs.Theorem.Lowest.{lowest_good}
+use Rattle.image.proofs.Theorem.Carried.{none_each, carried, written_new}
 use Rattle.plain.specs.declared.progress.Progress.{Progress}
 use Rattle.plain.specs.declared.PlainRun.TheVariants.{Ended}
 use Rattle.plain.specs.PlainRun.{meant_in, progress_of, lent_rows, choice_row, plain_rows, RunsIn, Runs}

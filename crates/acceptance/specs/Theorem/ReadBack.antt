@@ -14,7 +14,7 @@ use Rattle.image.specs.Rows.{answer, judge, check_rows}
 use Rattle.image.specs.Sets.{settings}
 use Rattle.image.specs.Tree.{routine}
 use Rattle.image.specs.Accepted.{Accepted}
-use Rattle.image.specs.Theorem.Accepted.{accepts}
+use Rattle.image.proofs.Theorem.Accepted.{accepts}
 use Rattle.configure.specs.declared.Configured.{Configured}
 use Rattle.configure.specs.declared.Configured.TheVariants.{Length}
 use Rattle.configure.specs.Configured.{configured, configure_rows, Configures}

@@ -19,8 +19,8 @@ use Rattle.image.specs.Rows.{Row, check_rows, NoneFails}
 use Rattle.image.specs.Sets.{settings}
 use Rattle.image.specs.Tree.{routine}
 use Rattle.image.specs.Accepted.{Accepted}
-use Rattle.image.specs.Theorem.Accepted.{all_passed}
-use Rattle.image.specs.Theorem.Carried.{none_each, carried, written_new}
+use Rattle.image.proofs.Theorem.Accepted.{all_passed}
+use Rattle.image.proofs.Theorem.Carried.{none_each, carried, written_new}
 use Rattle.plain.specs.PlainRun.{progress_of}
 use Rattle.shared.specs.declared.Ends.{Ends}
 use Rattle.shared.specs.declared.SharedRun.TheVariants.{Ended}

@@ -10,9 +10,9 @@ use Rattle.image.specs.Records.{header}
 use Rattle.image.specs.Rows.{answer, check_rows, NoneFails}
 use Rattle.image.specs.Tree.{routine}
 use Rattle.image.specs.Accepted.{Accepted}
-use Rattle.image.specs.Theorem.Accepted.{accepts}
-use Rattle.image.specs.Theorem.Given.{answered, carried_out}
-use Rattle.image.specs.Theorem.Carried.{none_both, carried, written_new}
+use Rattle.image.proofs.Theorem.Accepted.{accepts}
+use Rattle.image.proofs.Theorem.Given.{answered, carried_out}
+use Rattle.image.proofs.Theorem.Carried.{none_both, carried, written_new}
 use Rattle.written.specs.Count.{recordsˢ}
 use Rattle.written.specs.Limits.{RECORDS}
 use Rattle.written.specs.Lister.{listed}

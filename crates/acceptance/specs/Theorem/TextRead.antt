@@ -10,7 +10,7 @@ use Rattle.image.specs.Check.{answer_of, shape_of}
 use Rattle.image.specs.Rows.{Answer, answer, judge, check_rows}
 use Rattle.image.specs.Tree.{routine}
 use Rattle.image.specs.Listing.{sizeˢ}
-use Rattle.image.specs.Theorem.Accepted.{accepts}
+use Rattle.image.proofs.Theorem.Accepted.{accepts}
 use Rattle.written.specs.Count.{recordsˢ}
 use Rattle.written.specs.Grammar.{Reads}
 use Rattle.written.specs.Image.{written_image}

@@ -7,7 +7,7 @@ use Rattle.image.specs.Bytes.{Bytes, over}
 use Rattle.image.specs.Records.{header}
 use Rattle.image.specs.Sets.{settings}
 use Rattle.image.specs.Rows.{NoneFails, Given}
-use Rattle.image.specs.Theorem.Given.{refused_given, carried_out}
+use Rattle.image.proofs.Theorem.Given.{refused_given, carried_out}
 use Rattle.imp.specs.Shared.{Shared}
 use Rattle.shared.specs.SharedRun.{ends_of}
 use Rattle.lines.specs.declared.answer.Report.{Report}

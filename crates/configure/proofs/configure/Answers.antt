@@ -17,9 +17,9 @@ use Rattle.image.specs.Rows.{refused, answer, judge, written, check_rows}
 use Rattle.image.specs.Check.{answer_of, shape_of}
 use Rattle.image.specs.Sets.{settings}
 use Rattle.image.specs.Accepted.{Accepted}
-use Rattle.image.specs.Theorem.Accepted.{accepts}
-use Rattle.image.specs.Theorem.Checked.{good_accepted, good_shape}
-use Rattle.image.specs.Theorem.Then.{judge_then, judge_stops, written_then, written_stops}
+use Rattle.image.proofs.Theorem.Accepted.{accepts}
+use Rattle.image.proofs.Theorem.Checked.{good_accepted, good_shape}
+use Rattle.image.proofs.Theorem.Then.{judge_then, judge_stops, written_then, written_stops}
 use Rattle.configure.specs.declared.Configured.{Configured}
 use Rattle.configure.specs.declared.Configured.TheVariants.{Refused}
 use Rattle.configure.specs.Configured.{space_rows, configure_rows, Configures}

@@ -6,7 +6,7 @@ use native.Mathlib.Omega.{arith}
 use borrow.Author.Tests.{eqb-true}
 use Rattle.imp.specs.Condition.{holds}
 use Rattle.imp.specs.Configure.{configureᵃ, configureᵇ, configure}
-use Rattle.imp.specs.Theorem.Wrap.{low_signed}
+use Rattle.imp.proofs.Theorem.Wrap.{low_signed}
 use Rattle.image.specs.declared.records.Node.{Node}
 use Rattle.image.specs.Bytes.{Bytes, number_at}
 use Rattle.image.specs.Records.{header, node}
@@ -16,11 +16,11 @@ use Rattle.image.specs.Tree.{condition, read}
 use Rattle.image.specs.Term.{term, none, some}
 use Rattle.image.specs.Encode.{leaf, on_one, on_two, termᵃ, termᵇ, termˢ}
 use Rattle.image.specs.Accepted.{Accepted}
-use Rattle.image.specs.Theorem.Lower.{Fitted, fitted, lower}
+use Rattle.image.proofs.Theorem.Lower.{Fitted, fitted, lower}
 use Rattle.image.specs.Inner.Lower.{Lower}
-use Rattle.image.specs.Theorem.Held.{Child, child_a, child_b, child_c}
-use Rattle.image.specs.Theorem.Kinds.{kind_cases}
-use Rattle.image.specs.Theorem.Reading as At
+use Rattle.image.proofs.Theorem.Held.{Child, child_a, child_b, child_c}
+use Rattle.image.proofs.Theorem.Kinds.{kind_cases}
+use Rattle.image.proofs.Theorem.Reading as At
 use Rattle.configure.specs.Inner.Term.{hang, term_at}
 use Rattle.configure.specs.Theorem.Terms.{choice_term, node_term}
 

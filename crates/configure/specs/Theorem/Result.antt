@@ -7,16 +7,16 @@ use Rattle.imp.specs.Routine.{Statement}
 use Rattle.imp.specs.Configure.{configure}
 use Rattle.imp.specs.Embed.{embed}
 use Rattle.imp.specs.Valid.{Valid}
-use Rattle.imp.specs.Theorem.Configured.{configured_valid}
+use Rattle.imp.proofs.Theorem.Configured.{configured_valid}
 use Rattle.image.specs.Bytes.{Bytes}
 use Rattle.image.specs.Records.{header}
 use Rattle.image.specs.Tree.{routine}
 use Rattle.image.specs.Term.{size, term_image}
 use Rattle.image.specs.Encode.{termˢ, plain_image}
 use Rattle.image.specs.Accepted.{Accepted}
-use Rattle.image.specs.Theorem.Held.{root_class}
-use Rattle.image.specs.Theorem.ReadValid.{read_valid}
-use Rattle.image.specs.Theorem.RoundTrip.{image_accepted, image_shape, reads_back, again_the_same, equal_bytes, image_length}
+use Rattle.image.proofs.Theorem.Held.{root_class}
+use Rattle.image.proofs.Theorem.ReadValid.{read_valid}
+use Rattle.image.proofs.Theorem.RoundTrip.{image_accepted, image_shape, reads_back, again_the_same, equal_bytes, image_length}
 use Rattle.configure.specs.Inner.Term.{term_at}
 use Rattle.configure.specs.Configured.{configured}
 use Rattle.configure.specs.Theorem.Linked.{linked}

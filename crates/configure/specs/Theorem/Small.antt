@@ -15,11 +15,11 @@ use Rattle.image.specs.Tree.{condition}
 use Rattle.image.specs.Term.{size, branch_size}
 use Rattle.image.specs.Accepted.{Accepted}
 use Rattle.image.specs.Inner.Lower.{Lower}
-use Rattle.image.specs.Theorem.Lower.{lower}
-use Rattle.image.specs.Theorem.Choosing.{choice_parts}
-use Rattle.image.specs.Theorem.Sums.{over, length_over}
-use Rattle.image.specs.Theorem.Listed.{by_test, child_listing, over_at}
-use Rattle.image.specs.Theorem.Inside.{tree_small}
+use Rattle.image.proofs.Theorem.Lower.{lower}
+use Rattle.image.proofs.Theorem.Choosing.{choice_parts}
+use Rattle.image.proofs.Theorem.Sums.{over, length_over}
+use Rattle.image.proofs.Theorem.Listed.{by_test, child_listing, over_at}
+use Rattle.image.proofs.Theorem.Inside.{tree_small}
 use Rattle.configure.specs.Inner.Term.{hang, term_at}
 use Rattle.configure.specs.Theorem.Terms.{choice_term, node_term}
 

@@ -5,7 +5,7 @@ use Rattle.sets.specs.Member.{bit, digit}
 use Rattle.imp.specs.Condition.{holds, on_in}
 use Rattle.imp.specs.Configure.{configureᵃ, configureᵇ, configure}
 use Rattle.imp.specs.Numbers.{low32, signed32}
-use Rattle.imp.specs.Theorem.Table as table
+use Rattle.imp.proofs.Theorem.Table as table
 use Rattle.image.specs.Bytes.{Bytes, number_at}
 use Rattle.image.specs.Records.{nodes_from, header, condition_record, node}
 use Rattle.image.specs.Layout.{kinds, layout, names_node, condition_kinds, condition_layout, field_fits}
@@ -13,7 +13,7 @@ use Rattle.image.specs.Rows.{answer, judge, short, edition_wrong, counts_wrong, 
 use Rattle.image.specs.Tree.{condition_kind, condition_reading, condition, kind_of, reading, read_below, read, routine}
 use Rattle.image.specs.Term.{size, name, head_word, node_word, words, bytes_of, all_bytes, term_image}
 use Rattle.image.specs.Encode.{termᵃ, termˢ, plain_image}
-use Rattle.image.specs.Theorem.RoutineH.{H}
+use Rattle.image.proofs.Theorem.RoutineH.{H}
 use Rattle.configure.specs.Configured.{configured}
 
 -- "H configured for setting 1: 10 nodes, 88 bytes, header 01 00 00 00 A0 00 00 00."

@@ -15,9 +15,9 @@ use Rattle.image.specs.Rows.{Answer, refused, answer, judge, check_rows, NoneFai
 use Rattle.image.specs.Sets.{settings, setting_row}
 use Rattle.image.specs.Tree.{routine}
 use Rattle.image.specs.Accepted.{Accepted}
-use Rattle.image.specs.Theorem.Given.{answered, carried_out}
-use Rattle.image.specs.Theorem.Carried.{none_each}
-use Rattle.image.specs.Theorem.Accepted.{all_passed}
+use Rattle.image.proofs.Theorem.Given.{answered, carried_out}
+use Rattle.image.proofs.Theorem.Carried.{none_each}
+use Rattle.image.proofs.Theorem.Accepted.{all_passed}
 use Rattle.plain.specs.PlainRun.{meant_in, progress_of, lent_rows, hall_rows}
 use Rattle.text.specs.Decimal.{decimal, signed_decimal}
 use Rattle.lines.specs.Words.{space}

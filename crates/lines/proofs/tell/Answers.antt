@@ -14,7 +14,7 @@ use Rattle.image.specs.Rows.{answer, judge, check_rows}
 use Rattle.image.specs.Check.{answer_of, shape_of}
 use Rattle.image.specs.Sets.{settings}
 use Rattle.image.specs.Accepted.{Accepted}
-use Rattle.image.specs.Theorem.Checked.{good_accepted, good_shape}
+use Rattle.image.proofs.Theorem.Checked.{good_accepted, good_shape}
 use Rattle.lines.specs.Text.{refusal_line, set_in, budget_in, report_rows, told, run_text, text}
 use Rattle.text.proofs.Putting.{same}
 use Rattle.lines.proofs.Telling.{tell_check}

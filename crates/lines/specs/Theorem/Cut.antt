@@ -8,7 +8,7 @@ use Rattle.image.specs.Bytes.{Bytes, number_at}
 use Rattle.image.specs.Records.{header_fields, header}
 use Rattle.image.specs.Rows.{Row, row, refused, judge, short, edition_wrong, counts_wrong, length_wrong, check_rows}
 use Rattle.image.specs.Sets.{settings}
-use Rattle.image.specs.Theorem.Headers.{in_range}
+use Rattle.image.proofs.Theorem.Headers.{in_range}
 use Rattle.shared.specs.SharedRun.{shared_rows}
 use Rattle.lines.specs.Limits.{longest, most}
 use Rattle.lines.specs.Text.{refusal_line, image_in, run_rows, input_row, report_rows, told, text}

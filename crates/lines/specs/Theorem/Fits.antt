@@ -9,17 +9,17 @@ use Rattle.std.proofs.Math.ListN.{length, length-append}
 use Rattle.sets.specs.Member.{bit, digit, members}
 use Rattle.imp.specs.Shared.{Shared}
 use Rattle.imp.specs.Valid.{Valid}
-use Rattle.imp.specs.Theorem.Range.{AllFit, InRange, shared_range}
+use Rattle.imp.proofs.Theorem.Range.{AllFit, InRange, shared_range}
 use Rattle.image.specs.Bytes.{Bytes}
 use Rattle.image.specs.Records.{header}
 use Rattle.image.specs.Rows.{Row, Answer, refused, answer, judge, check_rows, NoneFails}
 use Rattle.image.specs.Sets.{settings}
 use Rattle.image.specs.Tree.{routine}
-use Rattle.image.specs.Theorem.Given.{answered, carried_out}
+use Rattle.image.proofs.Theorem.Given.{answered, carried_out}
 use Rattle.image.specs.Accepted.{Accepted}
-use Rattle.image.specs.Theorem.Carried.{none_each}
-use Rattle.image.specs.Theorem.Accepted.{all_passed}
-use Rattle.image.specs.Theorem.ReadValid.{read_valid}
+use Rattle.image.proofs.Theorem.Carried.{none_each}
+use Rattle.image.proofs.Theorem.Accepted.{all_passed}
+use Rattle.image.proofs.Theorem.ReadValid.{read_valid}
 use Rattle.plain.specs.PlainRun.{progress_of}
 use Rattle.shared.specs.declared.Ends.{Ends}
 use Rattle.shared.specs.Lent.{part}

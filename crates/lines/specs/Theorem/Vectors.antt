@@ -10,7 +10,7 @@ use Rattle.image.specs.Records.{nodes_from, header, condition_record, node}
 use Rattle.image.specs.Layout.{kinds, layout, names_node, condition_kinds, condition_layout, field_fits}
 use Rattle.image.specs.Rows.{judge, short, edition_wrong, counts_wrong, length_wrong, lowest, lowest_from, condition_fits, slot_fits, node_fits, class, slot_classed, classed, slot_names, node_names, names, named_wrong, check_rows}
 use Rattle.image.specs.Sets.{settings}
-use Rattle.image.specs.Theorem.RoutineH.{H}
+use Rattle.image.proofs.Theorem.RoutineH.{H}
 use Rattle.image.specs.Tree.{condition_kind, condition_reading, condition, kind_of, reading, read_below, read, routine}
 use Rattle.plain.specs.PlainRun.{progress_of}
 use Rattle.shared.specs.Lent.{part}

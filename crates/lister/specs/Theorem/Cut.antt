@@ -6,7 +6,7 @@ use Rattle.image.specs.declared.records.Header.{Header}
 use Rattle.image.specs.Bytes.{Bytes, number_at}
 use Rattle.image.specs.Records.{header_fields, header}
 use Rattle.image.specs.Rows.{Row, row, Answer, refused, judge, short, edition_wrong, counts_wrong, length_wrong, check_rows}
-use Rattle.image.specs.Theorem.Headers.{in_range}
+use Rattle.image.proofs.Theorem.Headers.{in_range}
 use Rattle.lister.specs.Stream.{most}
 
 -- ---- the header is the same

@@ -9,9 +9,9 @@ use Rattle.image.specs.Refusals.{number_of, place_of}
 use Rattle.image.specs.Rows.{refused, answer, judge, check_rows}
 use Rattle.image.specs.Check.{answer_of, shape_of}
 use Rattle.image.specs.Accepted.{Accepted}
-use Rattle.image.specs.Theorem.Accepted.{accepts}
-use Rattle.image.specs.Theorem.Checked.{good_accepted, good_shape}
-use Rattle.image.specs.Theorem.Then.{judge_then, judge_stops, written_then, written_stops}
+use Rattle.image.proofs.Theorem.Accepted.{accepts}
+use Rattle.image.proofs.Theorem.Checked.{good_accepted, good_shape}
+use Rattle.image.proofs.Theorem.Then.{judge_then, judge_stops, written_then, written_stops}
 use Rattle.listing.specs.declared.Listed.{Listed}
 use Rattle.listing.specs.declared.Listed.TheVariants.{Refused}
 use Rattle.listing.specs.Lists.{text_rows, list_rows, Lists}

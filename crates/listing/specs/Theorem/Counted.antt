@@ -14,11 +14,11 @@ use Rattle.image.specs.Layout.{kinds, layout, class_digit, a_digit, b_digit, c_d
 use Rattle.image.specs.Rows.{class}
 use Rattle.image.specs.Accepted.{Accepted}
 use Rattle.image.specs.Tree.{condition_kind, condition_reading, condition_below, condition, kind_of, Read, reading, read_below, read}
-use Rattle.image.specs.Theorem.Kinds.{kind_cases}
-use Rattle.image.specs.Theorem.Held.{Child}
-use Rattle.image.specs.Theorem.ConditionHeld.{kind_below, left_below, right_below}
-use Rattle.image.specs.Theorem.Reading.{condition_same, read_same}
-use Rattle.image.specs.Theorem.Listed.{by_test}
+use Rattle.image.proofs.Theorem.Kinds.{kind_cases}
+use Rattle.image.proofs.Theorem.Held.{Child}
+use Rattle.image.proofs.Theorem.ConditionHeld.{kind_below, left_below, right_below}
+use Rattle.image.proofs.Theorem.Reading.{condition_same, read_same}
+use Rattle.image.proofs.Theorem.Listed.{by_test}
 use Rattle.written.specs.Count.{sizeᶜ, recordsᵃ, recordsˢ}
 use Rattle.listing.specs.Inner.Counting.{records_of, node_records, field_records}
 use Rattle.listing.specs.Theorem.Image.{known, in_a, in_b, in_c}

@@ -16,11 +16,11 @@ use Rattle.image.specs.Layout.{kinds, layout, a_digit, b_digit, c_digit, names_n
 use Rattle.image.specs.Rows.{class, node_fits}
 use Rattle.image.specs.Accepted.{Accepted}
 use Rattle.image.specs.Tree.{condition_below, condition, Read, read_below, read}
-use Rattle.image.specs.Theorem.Lower.{fitted}
-use Rattle.image.specs.Theorem.Held.{Child, child_a, child_b, child_c}
-use Rattle.image.specs.Theorem.ConditionHeld.{kind_below, left_below, right_below}
-use Rattle.image.specs.Theorem.Reading.{condition_same, read_same}
-use Rattle.image.specs.Theorem.Listed.{by_test}
+use Rattle.image.proofs.Theorem.Lower.{fitted}
+use Rattle.image.proofs.Theorem.Held.{Child, child_a, child_b, child_c}
+use Rattle.image.proofs.Theorem.ConditionHeld.{kind_below, left_below, right_below}
+use Rattle.image.proofs.Theorem.Reading.{condition_same, read_same}
+use Rattle.image.proofs.Theorem.Listed.{by_test}
 use Rattle.written.specs.Word.{bytes}
 use Rattle.written.specs.Lister.{short, listedᶜ}
 use Rattle.listing.specs.Inner.Spelling.{spelling, condition_spelling, spell}

@@ -11,8 +11,8 @@ use Rattle.image.specs.Rows.{Row, refused, answer, judge, NoneFails, check_rows}
 use Rattle.image.specs.Accepted.{Accepted}
 use Rattle.image.specs.Tree.{routine}
 use Rattle.image.specs.Listing.{sizeˢ}
-use Rattle.image.specs.Theorem.Accepted.{accepted}
-use Rattle.image.specs.Theorem.Given.{answered, carried_out, by_answer, written_as_judged}
+use Rattle.image.proofs.Theorem.Accepted.{accepted}
+use Rattle.image.proofs.Theorem.Given.{answered, carried_out, by_answer, written_as_judged}
 use Rattle.written.specs.Count.{recordsˢ}
 use Rattle.written.specs.Limits.{NODES, RECORDS}
 use Rattle.written.specs.Image.{written_image}

@@ -7,7 +7,7 @@ use Rattle.image.specs.Records.{header}
 use Rattle.image.specs.Rows.{class}
 use Rattle.image.specs.Accepted.{Accepted}
 use Rattle.image.specs.Tree.{read, routine}
-use Rattle.image.specs.Theorem.Held.{root_class}
+use Rattle.image.proofs.Theorem.Held.{root_class}
 use Rattle.written.specs.Count.{recordsˢ}
 use Rattle.written.specs.Lister.{listedˢ}
 use Rattle.listing.specs.Inner.Texts.{text_of, node_text}

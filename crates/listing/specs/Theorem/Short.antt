@@ -8,9 +8,9 @@ use Rattle.image.specs.Layout.{kinds, layout, class_digit, names_node}
 use Rattle.image.specs.Rows.{class}
 use Rattle.image.specs.Accepted.{Accepted}
 use Rattle.image.specs.Tree.{condition, kind_of, reading, read_below, read}
-use Rattle.image.specs.Theorem.Kinds.{kind_cases}
-use Rattle.image.specs.Theorem.Held.{Child, child_a}
-use Rattle.image.specs.Theorem.Reading.{skip_at, assign_at, throw_at}
+use Rattle.image.proofs.Theorem.Kinds.{kind_cases}
+use Rattle.image.proofs.Theorem.Held.{Child, child_a}
+use Rattle.image.proofs.Theorem.Reading.{skip_at, assign_at, throw_at}
 use Rattle.written.specs.Lister.{shortᵃ, short}
 
 -- a number or a variable is of a kind below 2

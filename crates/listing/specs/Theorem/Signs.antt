@@ -8,8 +8,8 @@ use native.Mathlib.Omega.{arith}
 use Rattle.std.proofs.Math.ListN.{length-append, get_or-eq_default}
 use Rattle.image.specs.Bytes.{Bytes}
 use Rattle.image.specs.Layout.{kinds, layout, names_node, is_choice, condition_kinds, condition_layout}
-use Rattle.image.specs.Theorem.Kinds.{kind_cases}
-use Rattle.image.specs.Theorem.Lower.{both}
+use Rattle.image.proofs.Theorem.Kinds.{kind_cases}
+use Rattle.image.proofs.Theorem.Lower.{both}
 use Rattle.listing.specs.Inner.Spelling.{spellings, spelling, condition_spellings, condition_spelling, DOT, Parts, plainly, stands, spell}
 use Rattle.listing.specs.Inner.Listing.{asks, condition_asks}
 

@@ -10,7 +10,7 @@ use Rattle.image.specs.declared.records.ConditionRecord.{ConditionRecord}
 use Rattle.image.specs.declared.records.Node.{Node}
 use Rattle.image.specs.Layout.{kinds, layout, class_digit, names_node, condition_kinds, condition_layout}
 use Rattle.image.specs.Tree.{condition_kind, condition_reading, kind_of, Read, reading}
-use Rattle.image.specs.Theorem.Kinds.{kind_cases}
+use Rattle.image.proofs.Theorem.Kinds.{kind_cases}
 use Rattle.text.specs.Decimal.{decimal, signed_decimal}
 use Rattle.written.specs.Lister.{listedᶜ, listedᵃ, listedᵇ, listedˢ}
 use Rattle.listing.specs.Inner.Spelling.{spellings, spelling, condition_spellings, condition_spelling, plainly, stands, spell}

@@ -2,11 +2,11 @@
 use Rattle.std.specs.Prelude.{◌≡◌, refl}
 use Rattle.std.proofs.Common.{ap, ◌∙◌}
 use Rattle.imp.specs.Numbers.{signed32}
-use Rattle.imp.specs.Theorem.Table as table
+use Rattle.imp.proofs.Theorem.Table as table
 use Rattle.image.specs.Bytes.{number_at}
 use Rattle.image.specs.Records.{nodes_from, header, condition_record, node}
 use Rattle.image.specs.Tree.{condition_kind, condition_reading, condition, kind_of, reading, read_below, read, routine}
-use Rattle.image.specs.Theorem.RoutineH.{H}
+use Rattle.image.proofs.Theorem.RoutineH.{H}
 use Rattle.text.specs.Decimal.{digits, decimal, signed_decimal}
 use Rattle.written.specs.Word.{bytes}
 use Rattle.written.specs.Lister.{listedᶜ, listedᵃ, spaces, line, gap, shortᵃ, short, listedˢ, listed}

@@ -13,7 +13,7 @@ use Rattle.image.specs.Rows.{answer, judge, check_rows}
 use Rattle.image.specs.Check.{answer_of, shape_of}
 use Rattle.image.specs.Sets.{settings, setting_row}
 use Rattle.image.specs.Accepted.{Accepted}
-use Rattle.image.specs.Theorem.Checked.{good_accepted, good_shape}
+use Rattle.image.proofs.Theorem.Checked.{good_accepted, good_shape}
 use Rattle.plain.specs.PlainRun.{hall_rows}
 use Rattle.plain.proofs.Plainly.{refused_first, beyond, below}
 use Rattle.plain.proofs.one_hall.Lts as lts

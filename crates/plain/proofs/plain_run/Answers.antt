@@ -13,7 +13,7 @@ use Rattle.image.specs.Check.{answer_of, shape_of}
 use Rattle.image.specs.Sets.{settings}
 use Rattle.image.specs.Inner.Whole.{Whole}
 use Rattle.image.specs.Accepted.{Accepted}
-use Rattle.image.specs.Theorem.Checked.{good_accepted, good_shape}
+use Rattle.image.proofs.Theorem.Checked.{good_accepted, good_shape}
 use Rattle.plain.specs.PlainRun.{choice_row, plain_rows}
 use Rattle.plain.proofs.Plainly.{refused_first, choice_held, no_choice}
 use Rattle.plain.proofs.plain_run.Lts as lts

@@ -10,7 +10,7 @@ use Rattle.image.specs.declared.accept.Shape.{Shape}
 use Rattle.image.specs.Records.{header}
 use Rattle.image.specs.Check.{shape_of}
 use Rattle.image.specs.Accepted.{Accepted}
-use Rattle.image.specs.Theorem.Held.{root_class}
+use Rattle.image.proofs.Theorem.Held.{root_class}
 use Rattle.plain.specs.Inner.Progress.{outcome_from, Proper}
 use Rattle.plain.proofs.Plainly as plainly
 use Rattle.plain.proofs.run_accepted.Lts as lts

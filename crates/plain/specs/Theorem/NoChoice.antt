@@ -11,7 +11,7 @@ use Rattle.imp.specs.Condition.{Condition}
 use Rattle.imp.specs.Routine.{Arithmetic, sum, pick, Boolean, notᵇ, andᵇ, less, Statement, skip, assign, sequence, if, while, throw, try}
 use Rattle.imp.specs.Configure.{configureᵃ, configureᵇ, configure}
 use Rattle.imp.specs.Embed.{embedᵃ, embedᵇ, embed}
-use Rattle.imp.specs.Theorem.Configured.{configure_embed}
+use Rattle.imp.proofs.Theorem.Configured.{configure_embed}
 use Rattle.image.specs.declared.records.Node.{Node}
 use Rattle.image.specs.Bytes.{Bytes}
 use Rattle.image.specs.Records.{header, node}
@@ -19,10 +19,10 @@ use Rattle.image.specs.Layout.{kinds, layout, is_choice}
 use Rattle.image.specs.Rows.{lowest}
 use Rattle.image.specs.Tree.{kind_of, condition, Read, an_arithmetic, a_boolean, a_statement, reading, read_below, read, routine}
 use Rattle.image.specs.Accepted.{Accepted}
-use Rattle.image.specs.Theorem.Lower.{fitted}
-use Rattle.image.specs.Theorem.Kinds.{kind_cases}
-use Rattle.image.specs.Theorem.Choosing.{choice_condition}
-use Rattle.image.specs.Theorem.Lowest.{lowest_none}
+use Rattle.image.proofs.Theorem.Lower.{fitted}
+use Rattle.image.proofs.Theorem.Kinds.{kind_cases}
+use Rattle.image.proofs.Theorem.Choosing.{choice_condition}
+use Rattle.image.proofs.Theorem.Lowest.{lowest_none}
 use Rattle.plain.specs.PlainRun.{choice_row}
 
 -- no node is a choice

@@ -7,7 +7,7 @@ use Rattle.image.specs.declared.accept.Shape.{Shape}
 use Rattle.image.specs.Rows.{answer, judge, check_rows}
 use Rattle.image.specs.Check.{answer_of, shape_of}
 use Rattle.image.specs.Accepted.{Accepted}
-use Rattle.image.specs.Theorem.Checked.{good_accepted, good_shape}
+use Rattle.image.proofs.Theorem.Checked.{good_accepted, good_shape}
 use Rattle.shared.specs.Lent.{tally}
 use Rattle.shared.proofs.Entry.{refused_first, goes_on}
 use Rattle.shared.proofs.shared_run.Lts as lts

@@ -6,14 +6,14 @@ use Rattle.imp.specs.Numbers.{low32, signed32, wrap}
 use Rattle.imp.specs.Condition.{Condition, falseᶜ, trueᶜ, option, notᶜ, andᶜ, orᶜ}
 use Rattle.imp.specs.Routine.{Arithmetic, number, variable, sum, pick, choiceᵃ, Boolean, falseᵇ, trueᵇ, notᵇ, andᵇ, less, choiceᵇ, Statement, skip, assign, sequence, if, while, throw, try, choice}
 use Rattle.imp.specs.Valid.{Validᵃ, Validᵇ, Valid}
-use Rattle.imp.specs.Theorem.Wrap.{low_fits, wrap_same}
+use Rattle.imp.proofs.Theorem.Wrap.{low_fits, wrap_same}
 use Rattle.image.specs.Records.{condition_record, condition_fields, node, node_fields}
 use Rattle.image.specs.Tree.{condition, read}
 use Rattle.image.specs.Listing.{sizeᵃ, sizeᵇ, sizeˢ}
 use Rattle.image.specs.Term.{condition_word}
-use Rattle.image.specs.Theorem.Reading as At
-use Rattle.image.specs.Theorem.Words.{number_back}
-use Rattle.image.specs.Theorem.Fine.{stands}
+use Rattle.image.proofs.Theorem.Reading as At
+use Rattle.image.proofs.Theorem.Words.{number_back}
+use Rattle.image.proofs.Theorem.Fine.{stands}
 use Rattle.written.specs.Under.{Underᶜ, Underᵃ, Underᵇ, Under}
 use Rattle.written.specs.Count.{sizeᶜ, recordsᵃ, recordsᵇ, recordsˢ}
 use Rattle.written.specs.Image.{wordsᶜ, choicesᵃ, choicesᵇ, choicesˢ, nodesᵃ, nodesᵇ, nodesˢ}

@@ -5,7 +5,7 @@ use Rattle.imp.specs.Condition.{Condition, holds}
 use Rattle.imp.specs.Routine.{Arithmetic, number, variable, sum, pick, choiceᵃ, Boolean, falseᵇ, trueᵇ, notᵇ, andᵇ, less, choiceᵇ, Statement, skip, assign, sequence, if, while, throw, try, choice}
 use Rattle.imp.specs.Configure.{configureᵃ, configureᵇ, configure}
 use Rattle.imp.specs.Valid.{Valid}
-use Rattle.imp.specs.Theorem.Configured.{configured_valid}
+use Rattle.imp.proofs.Theorem.Configured.{configured_valid}
 use Rattle.image.specs.Bytes.{Bytes}
 use Rattle.image.specs.Records.{header}
 use Rattle.image.specs.Tree.{routine}
@@ -13,7 +13,7 @@ use Rattle.image.specs.Listing.{sizeᵃ, sizeᵇ, sizeˢ}
 use Rattle.image.specs.Term.{size}
 use Rattle.image.specs.Encode.{termᵃ, termᵇ, termˢ, plain_image}
 use Rattle.image.specs.Accepted.{Accepted}
-use Rattle.image.specs.Theorem.RoundTrip.{image_accepted, image_shape, reads_back}
+use Rattle.image.proofs.Theorem.RoundTrip.{image_accepted, image_shape, reads_back}
 use Rattle.written.specs.Grammar.{Reads}
 use Rattle.written.specs.Lister.{listed}
 use Rattle.written.specs.Image.{written_image}

@@ -5,7 +5,7 @@ use Rattle.imp.specs.Condition.{Condition, option, trueᶜ, falseᶜ, andᶜ, or
 use Rattle.imp.specs.Routine.{number, variable, sum, pick, falseᵇ, trueᵇ, notᵇ, andᵇ, less, choiceᵇ, Statement, skip, assign, if, while, throw, try, choice}
 use Rattle.image.specs.Bytes.{Bytes}
 use Rattle.written.specs.Machine.{Outcome, read, refused, outcome, go, step, between, look, leads, forks, counted, first_step, final, start}
-use Rattle.imp.specs.Theorem.Table.{H}
+use Rattle.imp.proofs.Theorem.Table.{H}
 use Rattle.imp.specs.Numbers.{low32}
 use Rattle.image.specs.Listing.{sizeᵃ, sizeˢ}
 use Rattle.image.specs.Term.{head_word, condition_word, node_word, bytes_of, all_bytes}

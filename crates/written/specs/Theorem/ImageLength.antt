@@ -5,7 +5,7 @@ use Rattle.imp.specs.Condition.{Condition}
 use Rattle.imp.specs.Routine.{Arithmetic, number, variable, sum, pick, choiceᵃ, Boolean, falseᵇ, trueᵇ, notᵇ, andᵇ, less, choiceᵇ, Statement, skip, assign, sequence, if, while, throw, try, choice}
 use Rattle.image.specs.Listing.{sizeᵃ, sizeᵇ, sizeˢ}
 use Rattle.image.specs.Term.{head_word, bytes_of, all_bytes}
-use Rattle.image.specs.Theorem.Words.{length_bytes, length_all}
+use Rattle.image.proofs.Theorem.Words.{length_bytes, length_all}
 use Rattle.written.specs.Count.{sizeᶜ, recordsᵃ, recordsᵇ, recordsˢ}
 use Rattle.written.specs.Image.{choicesˢ, nodesᵃ, nodesᵇ, nodesˢ, record_bytes, written_image}
 use Rattle.written.specs.Theorem.ImageRead.{longˢ as records-long, length_records}

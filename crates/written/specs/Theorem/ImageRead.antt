@@ -9,13 +9,13 @@ use Rattle.imp.specs.Numbers.{low32}
 use Rattle.imp.specs.Condition.{Condition, falseᶜ, trueᶜ, option, notᶜ, andᶜ, orᶜ}
 use Rattle.imp.specs.Routine.{Arithmetic, number, variable, sum, pick, choiceᵃ, Boolean, falseᵇ, trueᵇ, notᵇ, andᵇ, less, choiceᵇ, Statement, skip, assign, sequence, if, while, throw, try, choice}
 use Rattle.imp.specs.Valid.{Validᵃ, Validᵇ, Valid}
-use Rattle.imp.specs.Theorem.Wrap.{low_fits}
+use Rattle.imp.proofs.Theorem.Wrap.{low_fits}
 use Rattle.image.specs.Bytes.{Bytes, number_at}
 use Rattle.image.specs.Records.{header_fields, header, nodes_from, condition_record, condition_fields, node, node_fields}
 use Rattle.image.specs.Tree.{read, routine}
 use Rattle.image.specs.Listing.{sizeᵃ, sizeᵇ, sizeˢ}
 use Rattle.image.specs.Term.{head_word, condition_word, node_word, bytes_of, all_bytes}
-use Rattle.image.specs.Theorem.Words.{AllWords, length_bytes, number_bytes}
+use Rattle.image.proofs.Theorem.Words.{AllWords, length_bytes, number_bytes}
 use Rattle.written.specs.Under.{Underᶜ, Underᵃ, Underᵇ, Under}
 use Rattle.written.specs.Count.{sizeᶜ, recordsᵃ, recordsᵇ, recordsˢ}
 use Rattle.written.specs.Image.{wordsᶜ, choicesᵃ, choicesᵇ, choicesˢ, nodesᵃ, nodesᵇ, nodesˢ, record_bytes, written_image}

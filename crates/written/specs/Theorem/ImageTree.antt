@@ -19,12 +19,12 @@ use Rattle.image.specs.Rows.{condition_fits, class}
 use Rattle.image.specs.Tree.{condition_kind, condition_reading, condition_below, condition, Kind, k_number, k_variable, k_sum, k_pick, k_choiceᵃ, k_falseᵇ, k_trueᵇ, k_notᵇ, k_andᵇ, k_less, k_choiceᵇ, k_skip, k_assign, k_sequence, k_if, k_while, k_throw, k_try, k_choice, k_other, kind_of, Read, an_arithmetic, a_boolean, a_statement, reading, read_below, read, routine}
 use Rattle.image.specs.Listing.{sizeˢ}
 use Rattle.image.specs.Accepted.{Accepted}
-use Rattle.image.specs.Theorem.ConditionHeld.{option_below}
-use Rattle.image.specs.Theorem.Choosing.{choice_condition}
-use Rattle.image.specs.Theorem.ReadValid.{read_valid}
-use Rattle.image.specs.Theorem.Held.{root_class}
-use Rattle.image.specs.Theorem.Sized.{tree_nodes}
-use Rattle.image.specs.Theorem.Once.{each_once}
+use Rattle.image.proofs.Theorem.ConditionHeld.{option_below}
+use Rattle.image.proofs.Theorem.Choosing.{choice_condition}
+use Rattle.image.proofs.Theorem.ReadValid.{read_valid}
+use Rattle.image.proofs.Theorem.Held.{root_class}
+use Rattle.image.proofs.Theorem.Sized.{tree_nodes}
+use Rattle.image.proofs.Theorem.Once.{each_once}
 use Rattle.written.specs.Under.{Underᶜ, Underᵃ, Underᵇ, Under}
 
 -- ---- conditions

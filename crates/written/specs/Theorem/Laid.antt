@@ -3,7 +3,7 @@ use Rattle.std.specs.Prelude.{◌≡◌, refl, ℕ, List, [], ◌∷◌, ◌++�
 use Prim.Native.String.{String}
 use Rattle.imp.specs.Condition.{Condition, option, trueᶜ, falseᶜ, andᶜ, orᶜ, notᶜ}
 use Rattle.imp.specs.Routine.{Arithmetic, number, variable, sum, pick, choiceᵃ, falseᵇ, trueᵇ, notᵇ, andᵇ, less, choiceᵇ, Statement, skip, assign, sequence, if, while, throw, try, choice}
-use Rattle.imp.specs.Theorem.Table.{H}
+use Rattle.imp.proofs.Theorem.Table.{H}
 use Rattle.image.specs.Bytes.{Bytes}
 use Rattle.text.specs.Decimal.{digits, decimal, signed_decimal}
 use Rattle.written.specs.Word.{bytes}

@@ -6,7 +6,7 @@ use Rattle.imp.specs.Numbers.{low32}
 use Rattle.imp.specs.Condition.{Condition}
 use Rattle.imp.specs.Routine.{Arithmetic, number, variable, sum, pick, choiceᵃ, Boolean, falseᵇ, trueᵇ, notᵇ, andᵇ, less, choiceᵇ, Statement, skip, assign, sequence, if, while, throw, try, choice}
 use Rattle.imp.specs.Valid.{Validᵃ, Validᵇ, Valid}
-use Rattle.imp.specs.Theorem.Wrap.{low_fits}
+use Rattle.imp.proofs.Theorem.Wrap.{low_fits}
 use Rattle.image.specs.Layout.{kinds, layout, names_node, field_fits}
 use Rattle.image.specs.Listing.{sizeᵃ, sizeᵇ, sizeˢ}
 use Rattle.written.specs.Count.{sizeᶜ, recordsᵃ, recordsᵇ, recordsˢ}

@@ -13,10 +13,10 @@ use Rattle.image.specs.Records.{node, node_fields}
 use Rattle.image.specs.Layout.{kinds, layout, class_digit, variable_digit, a_digit, b_digit, c_digit, names_node, field_fits}
 use Rattle.image.specs.Rows.{slot_fits, node_fits, class, slot_classed, slot_names, node_names}
 use Rattle.image.specs.Term.{node_word}
-use Rattle.image.specs.Theorem.Words.{number_back}
-use Rattle.image.specs.Theorem.Named.{names_from, here, same, named_join, here_low, here_high, here_one}
-use Rattle.image.specs.Theorem.Encoded.{all_nodes}
-use Rattle.image.specs.Theorem.Fine.{Stands, stands, variable_small}
+use Rattle.image.proofs.Theorem.Words.{number_back}
+use Rattle.image.proofs.Theorem.Named.{names_from, here, same, named_join, here_low, here_high, here_one}
+use Rattle.image.proofs.Theorem.Encoded.{all_nodes}
+use Rattle.image.proofs.Theorem.Fine.{Stands, stands, variable_small}
 
 -- ---- nodes and fields
 

@@ -11,7 +11,7 @@ use Rattle.image.specs.Records.{header, condition_record, node}
 use Rattle.image.specs.Rows.{condition_fits, node_fits, class, classed, names}
 use Rattle.image.specs.Listing.{sizeˢ}
 use Rattle.image.specs.Accepted.{Accepted}
-use Rattle.image.specs.Theorem.Named.{names_all, same, here_in}
+use Rattle.image.proofs.Theorem.Named.{names_all, same, here_in}
 use Rattle.written.specs.Under.{Under}
 use Rattle.written.specs.Count.{recordsˢ}
 use Rattle.written.specs.Image.{choicesˢ, written_image}

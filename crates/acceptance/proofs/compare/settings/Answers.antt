@@ -12,8 +12,8 @@ use Rattle.image.specs.Bytes.{Bytes}
 use Rattle.image.specs.Rows.{Answer, answer, judge, written, check_rows}
 use Rattle.image.specs.Check.{answer_of, shape_of}
 use Rattle.image.specs.Sets.{settings}
-use Rattle.image.specs.Theorem.Given.{by_answer, written_as_judged}
-use Rattle.image.specs.Theorem.Checked.{good_accepted, good_shape}
+use Rattle.image.proofs.Theorem.Given.{by_answer, written_as_judged}
+use Rattle.image.proofs.Theorem.Checked.{good_accepted, good_shape}
 use Rattle.acceptance.proofs.compare.settings.Lts as lts
 use Rattle.acceptance.proofs.compare.settings.Reads as reads
 use Rattle.acceptance.proofs.compare.settings.Tie as tie

@@ -11,12 +11,12 @@ use Rattle.image.specs.Records.{header, node}
 use Rattle.image.specs.Layout.{layout, a_digit, b_digit, c_digit, names_node, is_choice}
 use Rattle.image.specs.Term.{size, branch_size}
 use Rattle.image.specs.Inner.Lower.{Lower}
-use Rattle.image.specs.Theorem.Lower.{lower}
+use Rattle.image.proofs.Theorem.Lower.{lower}
 use Rattle.configure.specs.Inner.Term.{hang, term_at}
 use Rattle.configure.specs.Inner.Sizing.{SizesOf}
 use Rattle.configure.specs.Theorem.Terms.{choice_term, node_term}
 use Rattle.configure.specs.Theorem.Small.{size_small}
-use Rattle.image.specs.Theorem.Choosing.{choice_condition, choice_b, choice_c, chosen_is, chosen_lower}
+use Rattle.image.proofs.Theorem.Choosing.{choice_condition, choice_b, choice_c, chosen_is, chosen_lower}
 use Rattle.configure.proofs.sizes.size_of.Lts as lts
 use Rattle.configure.proofs.sizes.size_of.Reads as reads
 use Rattle.configure.proofs.sizes.size_of.Tie as tie

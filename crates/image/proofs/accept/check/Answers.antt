@@ -10,8 +10,8 @@ use Rattle.image.specs.declared.accept.Shape.{Shape}
 use Rattle.image.specs.Bytes.{Bytes}
 use Rattle.image.specs.Rows.{Answer, judge, short, length_wrong, check_rows}
 use Rattle.image.specs.Check.{shape_of}
-use Rattle.image.specs.Theorem.Given.{judge_fails, judge_passes}
-use Rattle.image.specs.Theorem.Headers.{InRange, in_range, length_right}
+use Rattle.image.proofs.Theorem.Given.{judge_fails, judge_passes}
+use Rattle.image.proofs.Theorem.Headers.{InRange, in_range, length_right}
 use Rattle.image.proofs.accept.check.Lts as lts
 use Rattle.image.proofs.accept.check.Reads as reads
 use Rattle.image.proofs.accept.check.Tie as tie

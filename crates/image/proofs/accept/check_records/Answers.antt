@@ -11,7 +11,7 @@ use Rattle.image.specs.Records.{condition_record, node}
 use Rattle.image.specs.Rows.{Row, Answer, judge, lowest_row, condition_fits, node_fits, classed, named_wrong, check_rows}
 use Rattle.image.specs.Inner.Whole.{Fitting}
 use Rattle.image.specs.Check.{shape_of}
-use Rattle.image.specs.Theorem.Lowest.{all_pass}
+use Rattle.image.proofs.Theorem.Lowest.{all_pass}
 use Rattle.image.proofs.Judged.{found, not_found}
 use Rattle.image.proofs.accept.check_records.Lts as lts
 use Rattle.image.proofs.accept.check_records.Reads as reads

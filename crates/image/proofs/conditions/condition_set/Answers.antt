@@ -12,9 +12,9 @@ use Rattle.image.specs.Rows.{refused, answer, judge, check_rows}
 use Rattle.image.specs.Check.{answer_of, shape_of}
 use Rattle.image.specs.Sets.{in_condition, condition_rows}
 use Rattle.image.specs.Accepted.{Accepted}
-use Rattle.image.specs.Theorem.Accepted.{accepts}
-use Rattle.image.specs.Theorem.Checked.{good_accepted, good_shape}
-use Rattle.image.specs.Theorem.Then.{judge_then, judge_stops}
+use Rattle.image.proofs.Theorem.Accepted.{accepts}
+use Rattle.image.proofs.Theorem.Checked.{good_accepted, good_shape}
+use Rattle.image.proofs.Theorem.Then.{judge_then, judge_stops}
 use Rattle.image.proofs.conditions.condition_set.Goals as goal
 
 -- the three answers

@@ -11,8 +11,8 @@ use Rattle.sets.proofs.Laws.{bit_none}
 use Rattle.image.specs.Records.{header, condition_record}
 use Rattle.image.specs.Layout.{condition_kinds, condition_layout}
 use Rattle.image.specs.Sets.{in_condition}
-use Rattle.image.specs.Theorem.ConditionHeld.{kind_below, left_below, right_below}
-use Rattle.image.specs.Theorem.ConditionSets.{false_set, true_set, option_set, not_set, and_set, or_set}
+use Rattle.image.proofs.Theorem.ConditionHeld.{kind_below, left_below, right_below}
+use Rattle.image.proofs.Theorem.ConditionSets.{false_set, true_set, option_set, not_set, and_set, or_set}
 use Rattle.image.proofs.conditions.set_of.Lts as lts
 use Rattle.image.proofs.conditions.set_of.Reads as reads
 use Rattle.image.proofs.conditions.set_of.Tie as tie
@@ -60,7 +60,6 @@ module _ (c : After-condition_at-r) where
 
   right_set : (s x : ℕ) → x ≡ get_or sets c.condition_at-r.result.right 0 → (condition_record l k).right < k → bit x s ≡ in_condition l (condition_record l k).right s
   right_set s x e h = ap (λ y. bit y s) (e ∙ ap (λ i. get_or sets i 0) is_right) ∙ start.requires.before.right (condition_record l k).right h s
-
 
 pub returns-in-0 : goal.returns-in-0
 returns-in-0 c s =

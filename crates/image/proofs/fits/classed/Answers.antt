@@ -8,7 +8,7 @@ use borrow.Author.Tests.{eq-eqb, ne_eqb}
 use Rattle.image.specs.Records.{header}
 use Rattle.image.specs.Rows.{class, classed}
 use Rattle.image.specs.Inner.Lower.{Lower}
-use Rattle.image.specs.Theorem.Lower.{lower}
+use Rattle.image.proofs.Theorem.Lower.{lower}
 use Rattle.image.proofs.fits.classed.Lts as lts
 use Rattle.image.proofs.fits.classed.Reads as reads
 use Rattle.image.proofs.fits.classed.Tie as tie

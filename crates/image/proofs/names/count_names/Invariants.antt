@@ -7,7 +7,7 @@ use lib.ListN.{length, get_or}
 use Rattle.image.specs.Records.{node}
 use Rattle.image.specs.Rows.{names}
 use Rattle.image.specs.Inner.Lower.{Lower}
-use Rattle.image.specs.Theorem.Lower.{lower, lower_more}
+use Rattle.image.proofs.Theorem.Lower.{lower, lower_more}
 use Rattle.image.proofs.Counting.{names_le}
 use Rattle.image.proofs.names.count_names.Given as goal
 

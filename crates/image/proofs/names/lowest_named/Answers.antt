@@ -7,7 +7,7 @@ use lib.Dec.{eqb}
 use lib.ListN.{get_or}
 use borrow.Author.Rules.{rules}
 use Rattle.image.specs.Rows.{named_wrong}
-use Rattle.image.specs.Theorem.Lowest.{lowest_same}
+use Rattle.image.proofs.Theorem.Lowest.{lowest_same}
 use Rattle.image.proofs.Counting.{none_yet}
 use Rattle.image.proofs.names.lowest_named.Goals as goal
 

@@ -9,7 +9,7 @@ use Rattle.image.specs.declared.records.Node.{Node}
 use Rattle.image.specs.Records.{header, node}
 use Rattle.image.specs.Layout.{layout, a_digit, b_digit, c_digit, names_node}
 use Rattle.image.specs.Tree.{Read}
-use Rattle.image.specs.Theorem.Held.{Child}
+use Rattle.image.proofs.Theorem.Held.{Child}
 use Rattle.listing.specs.Inner.Texts.{still_short, all_short}
 use Rattle.listing.specs.Inner.Listing.{Good, AskingField, AskingAll}
 use Rattle.listing.specs.Theorem.Image.{in_a, in_b, in_c}

@@ -7,7 +7,7 @@ use borrow.Author.Rules.{rules}
 use Rattle.image.specs.declared.records.Node.{Node}
 use Rattle.image.specs.Records.{node}
 use Rattle.image.specs.Tree.{read}
-use Rattle.image.specs.Theorem.Held.{Child}
+use Rattle.image.proofs.Theorem.Held.{Child}
 use Rattle.written.specs.Lister.{shortᵃ}
 use Rattle.listing.specs.Inner.Listing.{Asking}
 use Rattle.listing.specs.Theorem.Short.{long, skip_short, assign_child, throw_child, assign_short, throw_short}

@@ -8,10 +8,10 @@ use Rattle.image.specs.Records.{node}
 use Rattle.image.specs.Layout.{names_node}
 use Rattle.image.specs.Rows.{node_fits, slot_names, node_names, names}
 use Rattle.image.specs.Listing.{listing, times}
-use Rattle.image.specs.Theorem.Lower.{lower}
-use Rattle.image.specs.Theorem.Named.{same}
-use Rattle.image.specs.Theorem.Sums.{over, upto, over_none, times_over, length_over, upto_none, upto_ones, same_yes, same_no, over_once}
-use Rattle.image.specs.Theorem.Listed.{by_test, slot_sum, children_sum, children_none, over_tree}
+use Rattle.image.proofs.Theorem.Lower.{lower}
+use Rattle.image.proofs.Theorem.Named.{same}
+use Rattle.image.proofs.Theorem.Sums.{over, upto, over_none, times_over, length_over, upto_none, upto_ones, same_yes, same_no, over_once}
+use Rattle.image.proofs.Theorem.Listed.{by_test, slot_sum, children_sum, children_none, over_tree}
 
 -- ---- who names a node
 

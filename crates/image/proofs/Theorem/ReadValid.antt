@@ -17,7 +17,7 @@ use Rattle.image.specs.Records.{header, nodes_from, node, node_fields}
 use Rattle.image.specs.Layout.{layout, variable_digit, field_fits}
 use Rattle.image.specs.Rows.{node_fits}
 use Rattle.image.specs.Tree.{Kind, k_number, k_variable, k_sum, k_pick, k_choiceᵃ, k_falseᵇ, k_trueᵇ, k_notᵇ, k_andᵇ, k_less, k_choiceᵇ, k_skip, k_assign, k_sequence, k_if, k_while, k_throw, k_try, k_choice, k_other, kind_of, condition, Read, an_arithmetic, a_boolean, a_statement, reading, read_below, read}
-use Rattle.image.specs.Theorem.Lower.{Fitted, fitted}
+use Rattle.image.proofs.Theorem.Lower.{Fitted, fitted}
 
 pub record ValidRead (r : Read) : Type 0 where
   pub arithmetic_valid : Validᵃ r.arithmetic

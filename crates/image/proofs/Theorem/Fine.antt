@@ -9,9 +9,9 @@ use Rattle.image.specs.Records.{node, node_fields}
 use Rattle.image.specs.Layout.{kinds, layout, class_digit, variable_digit, a_digit, b_digit, c_digit, names_node, field_fits}
 use Rattle.image.specs.Rows.{slot_fits, node_fits, class, slot_classed, slot_names, node_names}
 use Rattle.image.specs.Term.{Term, term, Branch, none, some, size, branch_size, name, node_word, words, branch_words}
-use Rattle.image.specs.Theorem.Words.{fields_back, number_back}
-use Rattle.image.specs.Theorem.Named.{names_from, here, same, named_join, here_low, here_high}
-use Rattle.image.specs.Theorem.Encoded.{Encoded, Parts, parts, size_some, all_nodes}
+use Rattle.image.proofs.Theorem.Words.{fields_back, number_back}
+use Rattle.image.proofs.Theorem.Named.{names_from, here, same, named_join, here_low, here_high}
+use Rattle.image.proofs.Theorem.Encoded.{Encoded, Parts, parts, size_some, all_nodes}
 
 -- ---- terms that fit
 

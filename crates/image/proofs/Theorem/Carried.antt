@@ -6,7 +6,7 @@ use Rattle.std.specs.Prelude.{Bool, ◌||◌, ℕ, eqb}
 use Rattle.std.proofs.Math.Bool.{true, false}
 use mathlib.Core.List.{List, [], ◌∷◌, ◌++◌}
 use Rattle.image.specs.Rows.{Row, Answer, refused, answer, judge, written, NoneFails, numbers}
-use Rattle.image.specs.Theorem.Given.{refused_given, answered, carried_out, by_answer, written_as_judged}
+use Rattle.image.proofs.Theorem.Given.{refused_given, answered, carried_out, by_answer, written_as_judged}
 
 -- a table and its continuation
 pub none_each : (rows more : List Row) → NoneFails (rows ++ more) → NoneFails rows × NoneFails more

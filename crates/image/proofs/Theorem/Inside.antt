@@ -10,11 +10,11 @@ use Rattle.image.specs.Layout.{layout, a_digit, b_digit, c_digit, names_node}
 use Rattle.image.specs.Listing.{slot_listing, listing}
 use Rattle.image.specs.Accepted.{Accepted}
 use Rattle.image.specs.Inner.Lower.{Lower}
-use Rattle.image.specs.Theorem.Lower.{lower}
-use Rattle.image.specs.Theorem.Named.{same}
-use Rattle.image.specs.Theorem.Sums.{over, times_over, length_over}
-use Rattle.image.specs.Theorem.Listed.{by_test, child_listing, over_at}
-use Rattle.image.specs.Theorem.Once.{each_once}
+use Rattle.image.proofs.Theorem.Lower.{lower}
+use Rattle.image.proofs.Theorem.Named.{same}
+use Rattle.image.proofs.Theorem.Sums.{over, times_over, length_over}
+use Rattle.image.proofs.Theorem.Listed.{by_test, child_listing, over_at}
+use Rattle.image.proofs.Theorem.Once.{each_once}
 
 not_same : (r k : ℕ) → (r ≡ k → ⊥) → same r k ≡ 0
 unfolding same

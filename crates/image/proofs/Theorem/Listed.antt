@@ -12,8 +12,8 @@ use Rattle.image.specs.Layout.{layout, a_digit, b_digit, c_digit, names_node}
 use Rattle.image.specs.Rows.{node_fits}
 use Rattle.image.specs.Listing.{slot_listing, node_listing, listing_below, listing}
 use Rattle.image.specs.Inner.Lower.{Lower}
-use Rattle.image.specs.Theorem.Lower.{lower}
-use Rattle.image.specs.Theorem.Sums.{over, over_append}
+use Rattle.image.proofs.Theorem.Lower.{lower}
+use Rattle.image.proofs.Theorem.Sums.{over, over_append}
 
 -- ---- the listing of a node, from those of its children
 

@@ -6,7 +6,7 @@ use Rattle.image.specs.Bytes.{Bytes}
 use Rattle.image.specs.Rows.{answer, judge, check_rows}
 use Rattle.image.specs.Check.{shape_of}
 use Rattle.image.specs.Accepted.{Accepted}
-use Rattle.image.specs.Theorem.Accepted.{accepted, accepts}
+use Rattle.image.proofs.Theorem.Accepted.{accepted, accepts}
 
 pub good_accepted : (l : Bytes) (shape : Shape) → answer shape ≡ judge (check_rows l) (shape_of l) → Accepted l
 good_accepted l shape e = accepted l (shape_of l) shape (sym e)

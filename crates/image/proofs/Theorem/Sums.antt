@@ -4,7 +4,7 @@ use Rattle.std.specs.Prelude.{◌≡◌, refl, List, [], ◌∷◌, ◌++◌, �
 use Rattle.std.proofs.Common.{sym, ◌∙◌, ap, zero-mul, one-mul, add-mul, arith, eq-eqb, ne_eqb}
 use Rattle.std.proofs.Math.Decide.{dec_lt, ℕ_discrete}
 use Rattle.image.specs.Listing.{times}
-use Rattle.image.specs.Theorem.Named.{same}
+use Rattle.image.proofs.Theorem.Named.{same}
 
 unfoldable pub over : (ℕ → ℕ) → List ℕ → ℕ
 over f [] = 0

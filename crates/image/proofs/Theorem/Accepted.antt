@@ -4,9 +4,9 @@ use Rattle.std.proofs.Common.{arith, ltb-false, le-ltb, eqb-true, eq-eqb}
 use Rattle.image.specs.Bytes.{Bytes}
 use Rattle.image.specs.Records.{header, condition_record, node}
 use Rattle.image.specs.Rows.{answer, judge, short, condition_fits, node_fits, classed, names, named_wrong, check_rows, NoneFails}
-use Rattle.image.specs.Theorem.Given.{answered, carried_out}
-use Rattle.image.specs.Theorem.Headers.{editioned, edition_right, InRange, in_range, counts_right, long, length_right}
-use Rattle.image.specs.Theorem.Lowest.{all_pass, none_fails}
+use Rattle.image.proofs.Theorem.Given.{answered, carried_out}
+use Rattle.image.proofs.Theorem.Headers.{editioned, edition_right, InRange, in_range, counts_right, long, length_right}
+use Rattle.image.proofs.Theorem.Lowest.{all_pass, none_fails}
 use Rattle.image.specs.Accepted.{Accepted}
 
 pub all_passed : (l : Bytes) → NoneFails (check_rows l) → Accepted l

@@ -10,9 +10,9 @@ use Rattle.image.specs.Bytes.{number_at}
 use Rattle.image.specs.Records.{header_fields, header, nodes_from, node, node_fields}
 use Rattle.image.specs.Layout.{layout, a_digit, b_digit, c_digit}
 use Rattle.image.specs.Term.{Term, term, Branch, none, some, size, branch_size, name, head_word, node_word, words, branch_words, term_image}
-use Rattle.image.specs.Theorem.Words.{AllWords, word_at, length_all}
-use Rattle.image.specs.Theorem.Encoded.{name_small, Encoded, length_words}
-use Rattle.image.specs.Theorem.Fine.{Own, own_number, own_kind, Fine, FineBranch, variable_small}
+use Rattle.image.proofs.Theorem.Words.{AllWords, word_at, length_all}
+use Rattle.image.proofs.Theorem.Encoded.{name_small, Encoded, length_words}
+use Rattle.image.proofs.Theorem.Fine.{Own, own_number, own_kind, Fine, FineBranch, variable_small}
 
 -- ---- every word has 64 bits
 

@@ -5,7 +5,7 @@ use Rattle.std.proofs.lemmas.Bool.{false≢true}
 use Rattle.image.specs.declared.records.ConditionRecord.{ConditionRecord}
 use Rattle.image.specs.Layout.{condition_kinds, condition_layout, field_fits}
 use Rattle.image.specs.Rows.{condition_fits}
-use Rattle.image.specs.Theorem.Lower.{both}
+use Rattle.image.proofs.Theorem.Lower.{both}
 
 -- a kind that is known is below 6
 known_below : (k : ℕ) → not (eqb (condition_layout k) 0) ≡ true → k < 6

@@ -10,10 +10,10 @@ use Rattle.image.specs.Layout.{kinds, layout, a_digit, b_digit, c_digit, names_n
 use Rattle.image.specs.Tree.{condition}
 use Rattle.image.specs.Sets.{settings, in_condition}
 use Rattle.image.specs.Accepted.{Accepted}
-use Rattle.image.specs.Theorem.Lower.{lower}
-use Rattle.image.specs.Theorem.Held.{condition_a}
+use Rattle.image.proofs.Theorem.Lower.{lower}
+use Rattle.image.proofs.Theorem.Held.{condition_a}
 use Rattle.image.specs.Inner.Ready.{Ready}
-use Rattle.image.specs.Theorem.Kinds.{kind_cases}
+use Rattle.image.proofs.Theorem.Kinds.{kind_cases}
 
 -- the parts of a choice are nodes
 pub choice_parts : (k : ℕ) → is_choice k ≡ true → (names_node (b_digit (layout k)) ≡ true) × (names_node (c_digit (layout k)) ≡ true)

@@ -17,12 +17,12 @@ use Rattle.image.specs.Tree.{read, routine}
 use Rattle.image.specs.Term.{size}
 use Rattle.image.specs.Encode.{termˢ, plain_image}
 use Rattle.image.specs.Accepted.{Accepted}
-use Rattle.image.specs.Theorem.Named.{names_all, same, here_in}
-use Rattle.image.specs.Theorem.Encoded.{size_some}
-use Rattle.image.specs.Theorem.Fine.{Passes, TermGood, term_good, Fine}
-use Rattle.image.specs.Theorem.Typed.{classˢ, fineˢ}
-use Rattle.image.specs.Theorem.Written.{header_says, nodes_are, length_is}
-use Rattle.image.specs.Theorem.Decode.{decode}
+use Rattle.image.proofs.Theorem.Named.{names_all, same, here_in}
+use Rattle.image.proofs.Theorem.Encoded.{size_some}
+use Rattle.image.proofs.Theorem.Fine.{Passes, TermGood, term_good, Fine}
+use Rattle.image.proofs.Theorem.Typed.{classˢ, fineˢ}
+use Rattle.image.proofs.Theorem.Written.{header_says, nodes_are, length_is}
+use Rattle.image.proofs.Theorem.Decode.{decode}
 
 module _ (t : Statement ⊥) (v : Valid t) (room : size (termˢ t) ≤ 1024) where
   abbrev l : Bytes

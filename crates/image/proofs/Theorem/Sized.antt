@@ -11,12 +11,12 @@ use Rattle.image.specs.Layout.{kinds, layout, class_digit, a_digit, b_digit, c_d
 use Rattle.image.specs.Rows.{node_fits, class, classed}
 use Rattle.image.specs.Tree.{kind_of, condition, Read, reading, read_below, read}
 use Rattle.image.specs.Listing.{listing, sizeᵃ, sizeᵇ, sizeˢ}
-use Rattle.image.specs.Theorem.Lower.{fitted}
-use Rattle.image.specs.Theorem.Kinds.{kind_cases}
-use Rattle.image.specs.Theorem.Held.{Child, child_a, child_b, child_c}
-use Rattle.image.specs.Theorem.Reading.{read_same}
-use Rattle.image.specs.Theorem.Sums.{over_none, length_over}
-use Rattle.image.specs.Theorem.Listed.{by_test, slot_sum, children_sum, over_tree}
+use Rattle.image.proofs.Theorem.Lower.{fitted}
+use Rattle.image.proofs.Theorem.Kinds.{kind_cases}
+use Rattle.image.proofs.Theorem.Held.{Child, child_a, child_b, child_c}
+use Rattle.image.proofs.Theorem.Reading.{read_same}
+use Rattle.image.proofs.Theorem.Sums.{over_none, length_over}
+use Rattle.image.proofs.Theorem.Listed.{by_test, slot_sum, children_sum, over_tree}
 
 -- the size of what is read, in a class
 size_in : ℕ → Read → ℕ

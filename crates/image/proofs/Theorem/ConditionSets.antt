@@ -5,7 +5,7 @@ use Rattle.sets.specs.Member.{bit}
 use Rattle.imp.specs.Condition.{on_in, holds}
 use Rattle.image.specs.Records.{condition_record}
 use Rattle.image.specs.Sets.{settings, in_condition}
-use Rattle.image.specs.Theorem.Reading.{false_at, true_at, option_at, not_at, and_at, or_at}
+use Rattle.image.proofs.Theorem.Reading.{false_at, true_at, option_at, not_at, and_at, or_at}
 
 and_false : (a : Bool) → a && false ≡ false
 and_false true = refl

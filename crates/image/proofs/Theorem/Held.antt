@@ -6,7 +6,7 @@ use borrow.Author.Tests.{ltb-true, eqb-true, eq-eqb}
 use Rattle.image.specs.Records.{header, node}
 use Rattle.image.specs.Layout.{layout, variable_digit, a_digit, b_digit, c_digit, names_node, field_fits}
 use Rattle.image.specs.Rows.{node_fits, slot_fits, class, slot_classed, classed}
-use Rattle.image.specs.Theorem.Lower.{both, Fitted, fitted, lower}
+use Rattle.image.proofs.Theorem.Lower.{both, Fitted, fitted, lower}
 use Rattle.image.specs.Inner.Lower.{Lower}
 
 -- a child: lower than its parent, and of the class that the field has

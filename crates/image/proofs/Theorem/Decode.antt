@@ -12,10 +12,10 @@ use Rattle.image.specs.Records.{node, node_fields}
 use Rattle.image.specs.Tree.{read}
 use Rattle.image.specs.Term.{Term, term, Branch, none, some, size, branch_size, name, node_word, words, branch_words}
 use Rattle.image.specs.Encode.{termᵃ, termᵇ, termˢ}
-use Rattle.image.specs.Theorem.Reading as At
-use Rattle.image.specs.Theorem.Words.{number_back}
-use Rattle.image.specs.Theorem.Encoded.{name_small, Encoded, Parts, parts, size_some}
-use Rattle.image.specs.Theorem.Fine.{Stands, stands}
+use Rattle.image.proofs.Theorem.Reading as At
+use Rattle.image.proofs.Theorem.Words.{number_back}
+use Rattle.image.proofs.Theorem.Encoded.{name_small, Encoded, Parts, parts, size_some}
+use Rattle.image.proofs.Theorem.Fine.{Stands, stands}
 
 -- the root of an encoded term, by its fields
 module _ (l : List ℕ) (at k v : ℕ) (a b c : Branch) (hk : k < 64) (hv : v < 64) (room : at + size (term k v 0 a b c) ≤ 4096)

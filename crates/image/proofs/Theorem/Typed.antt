@@ -6,7 +6,7 @@ use Rattle.imp.specs.Valid.{Validᵃ, Validᵇ, Valid}
 use Rattle.imp.proofs.Theorem.Wrap.{low_fits}
 use Rattle.image.specs.Layout.{kinds, layout, names_node, field_fits}
 use Rattle.image.specs.Encode.{termᵃ, termᵇ, termˢ}
-use Rattle.image.specs.Theorem.Fine.{term_class, own_number, own_kind, Fine}
+use Rattle.image.proofs.Theorem.Fine.{term_class, own_number, own_kind, Fine}
 
 -- the class of each kind of tree
 classᵃ : (a : Arithmetic ⊥) → term_class (termᵃ a) ≡ 1
