@@ -1,35 +1,19 @@
 // A line for each routine: its number, and whether condition 3 holds of it.
 use crate::compare::{Compared, Verdict};
+use std::io;
 
-fn tell_compared(c: Compared) {
-    io::print_decimal(1, c.settings as u64);
-    io::write_all(1, b" settings, ");
-    io::print_decimal(1, c.visits as u64);
-    io::write_all(1, b" visits, condition 3 ");
-    if c.holds {
-        io::write_all(1, b"holds\n");
-    } else {
-        io::write_all(1, b"FAILS\n");
-    }
+fn tell_compared<R: Print>(rt: &R, k: u64, c: Compared) -> io::Result<()> {
+    let word = if c.holds { "holds" } else { "FAILS" };
+    println!(rt; "routine {k}: {} settings, {} visits, condition 3 {word}", c.settings, c.visits)
 }
 
-fn tell_number(k: u64) {
-    io::write_all(1, b"routine ");
-    io::print_decimal(1, k);
-    io::write_all(1, b": ");
-}
-
-pub fn tell(k: u64, verdict: Verdict) {
-    tell_number(k);
+pub fn tell<R: Print>(rt: &R, k: u64, verdict: Verdict) -> io::Result<()> {
     match verdict {
-        Verdict::Refused => {
-            io::write_all(1, b"refused\n");
-        }
-        Verdict::Of(c) => tell_compared(c),
+        Verdict::Refused => println!(rt; "routine {k}: refused"),
+        Verdict::Of(c) => tell_compared(rt, k, c),
     }
 }
 
-pub fn tell_cut_short(k: u64) {
-    tell_number(k);
-    io::write_all(1, b"cut short\n");
+pub fn tell_cut_short<R: Print>(rt: &R, k: u64) -> io::Result<()> {
+    println!(rt; "routine {k}: cut short")
 }

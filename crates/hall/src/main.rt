@@ -7,8 +7,8 @@ ghost use Rattle.hall.specs.Stream.{Tells};
 
 mod tell; // tell.rt: the text
 
-use libc::{STDERR_FILENO, STDOUT_FILENO};
-use streams::read_input;
+use std::io::Write;
+use streams::{complain, read_input};
 use tell::tell;
 
 // "one beyond the longest possible input"
@@ -18,31 +18,31 @@ const MOST: usize = 9237;
 const ENOUGH: usize = 288;
 
 // Writes nothing but the text of what was read; false if it cannot be written.
-fn write(input: &[u8], n: usize, text: &[u8]) -> bool
+fn write<W: Write>(out: &mut W, input: &[u8], n: usize, text: &[u8]) -> bool
     requires { Tells input.now n text.now }
 {
-    io::write_all(STDOUT_FILENO, text)
+    out.write_all(text).is_ok()
 }
 
 // The stream that n bytes were read of.
-fn answer_to(input: &[u8], n: usize)
+fn answer_to<W: Write, E: Write>(out: &mut W, errors: &mut E, input: &[u8], n: usize)
     requires input_len { length input.now ≡ most }
     requires n_in_bounds { n ≤ length input.now }
 {
     let mut space = [0u8; ENOUGH];
     let end = tell(&input[..n], &mut space);
-    if !write(input, n, &space[..end]) {
-        io::write_all(STDERR_FILENO, b"hall: the text cannot be written\n");
+    if !write(out, input, n, &space[..end]) {
+        complain(errors, b"hall: the text cannot be written\n");
     }
 }
 
 // "it reads no more than 9,237 bytes"
-fn main() {
+fn main(rt: HostRuntime) {
     let mut input = [0u8; MOST];
-    let got = read_input(&mut input);
+    let got = read_input(&mut rt.stdin(), &mut input);
     if got.failed {
-        io::write_all(STDERR_FILENO, b"hall: the input cannot be read\n");
+        complain(&mut rt.stderr(), b"hall: the input cannot be read\n");
         return;
     }
-    answer_to(&input, got.bytes)
+    answer_to(&mut rt.stdout(), &mut rt.stderr(), &input, got.bytes)
 }

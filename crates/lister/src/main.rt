@@ -8,9 +8,9 @@ ghost use Rattle.image.specs.Rows.{refused, answer};
 ghost use Rattle.lister.specs.Stream.{most, enough, Tells, as_told, Inside};
 
 use image::refusals::Refusal;
-use libc::{STDERR_FILENO, STDOUT_FILENO};
 use listing::{Listed, list};
-use streams::{read_input, refuse};
+use std::io::Write;
+use streams::{complain, read_input, refuse};
 
 // One byte beyond the longest image: a stream that goes on is no image, and its refusal needs no later byte.
 const MOST: usize = 9225;
@@ -37,41 +37,41 @@ fn tell(image: &[u8], n: usize, space: &mut [u8]) -> Listed
 }
 
 // Writes nothing but the text of what was read; false if it cannot be written.
-fn give(image: &[u8], n: usize, text: &[u8]) -> bool
+fn give<W: Write>(out: &mut W, image: &[u8], n: usize, text: &[u8]) -> bool
     requires { Tells image.now n (answer text.now) }
 {
-    io::write_all(STDOUT_FILENO, text)
+    out.write_all(text).is_ok()
 }
 
 // Says nothing but the refusal of what was read.
-fn deny(image: &[u8], n: usize, r: Refusal)
+fn deny<E: Write>(errors: &mut E, image: &[u8], n: usize, r: Refusal)
     requires { Tells image.now n (refused (number_of r) (place_of r)) }
 {
-    refuse(r)
+    refuse(errors, r)
 }
 
 // The stream that n bytes were read of.
-fn answer_to(image: &[u8], n: usize)
+fn answer_to<W: Write, E: Write>(out: &mut W, errors: &mut E, image: &[u8], n: usize)
     requires image_len { length image.now ≡ most }
     requires n_in_bounds { n ≤ length image.now }
 {
     let mut space = blank();
     match tell(image, n, &mut space) {
-        Listed::Refused(r) => deny(image, n, r),
+        Listed::Refused(r) => deny(errors, image, n, r),
         Listed::Length(end) => {
-            if !give(image, n, &space[..end]) {
-                io::write_all(STDERR_FILENO, b"lister: the text cannot be written\n");
+            if !give(out, image, n, &space[..end]) {
+                complain(errors, b"lister: the text cannot be written\n");
             }
         }
     }
 }
 
-fn main() {
+fn main(rt: HostRuntime) {
     let mut image = [0u8; MOST];
-    let got = read_input(&mut image);
+    let got = read_input(&mut rt.stdin(), &mut image);
     if got.failed {
-        io::write_all(STDERR_FILENO, b"lister: the image cannot be read\n");
+        complain(&mut rt.stderr(), b"lister: the image cannot be read\n");
         return;
     }
-    answer_to(&image, got.bytes)
+    answer_to(&mut rt.stdout(), &mut rt.stderr(), &image, got.bytes)
 }

@@ -9,9 +9,9 @@ ghost use Rattle.streams.specs.Streams.{most};
 ghost use Rattle.reader.specs.Stream.{longest, Tells, as_told, Inside};
 
 use image::refusals::Refusal;
-use libc::{STDERR_FILENO, STDOUT_FILENO};
 use reading::{ReadText, read};
-use streams::{read_input, refuse};
+use std::io::Write;
+use streams::{complain, read_input, refuse};
 
 // A text of 256 KiB, and a byte by which its end is seen.
 const SPACE: usize = 262145;
@@ -37,47 +37,44 @@ fn tell(text: &[u8], n: usize, space: &mut [u8]) -> ReadText
 }
 
 // Writes nothing but the image of what was read; false if it cannot be written.
-fn give(text: &[u8], n: usize, image: &[u8]) -> bool
+fn give<W: Write>(out: &mut W, text: &[u8], n: usize, image: &[u8]) -> bool
     requires { Tells text.now n (answer image.now) }
 {
-    io::write_all(STDOUT_FILENO, image)
+    out.write_all(image).is_ok()
 }
 
 // Says nothing but the refusal of what was read.
-fn deny(text: &[u8], n: usize, r: Refusal)
+fn deny<E: Write>(errors: &mut E, text: &[u8], n: usize, r: Refusal)
     requires { Tells text.now n (refused (number_of r) (place_of r)) }
 {
-    refuse(r)
+    refuse(errors, r)
 }
 
 // The whole text, of n bytes.
-fn answer_to(text: &[u8], n: usize)
+fn answer_to<W: Write, E: Write>(out: &mut W, errors: &mut E, text: &[u8], n: usize)
     requires { n < length text.now }
 {
     let mut space = [0u8; IMAGE];
     match tell(text, n, &mut space) {
-        ReadText::Refused(r) => deny(text, n, r),
+        ReadText::Refused(r) => deny(errors, text, n, r),
         ReadText::Length(end) => {
-            if !give(text, n, &space[..end]) {
-                io::write_all(STDERR_FILENO, b"reader: the image cannot be written\n");
+            if !give(out, text, n, &space[..end]) {
+                complain(errors, b"reader: the image cannot be written\n");
             }
         }
     }
 }
 
-fn main() {
+fn main(rt: HostRuntime) {
     let mut text = blank();
-    let got = read_input(&mut text);
+    let got = read_input(&mut rt.stdin(), &mut text);
     if got.failed {
-        io::write_all(STDERR_FILENO, b"reader: the text cannot be read\n");
+        complain(&mut rt.stderr(), b"reader: the text cannot be read\n");
         return;
     }
     if got.bytes == SPACE {
-        io::write_all(
-            STDERR_FILENO,
-            b"reader: the text is longer than 262,144 bytes\n",
-        );
+        complain(&mut rt.stderr(), b"reader: the text is longer than 262,144 bytes\n");
         return;
     }
-    answer_to(&text, got.bytes)
+    answer_to(&mut rt.stdout(), &mut rt.stderr(), &text, got.bytes)
 }

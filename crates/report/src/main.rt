@@ -5,9 +5,9 @@ ghost use Rattle.std.specs.Prelude.{◌≡◌, ◌≤◌, length, take};
 ghost use Rattle.lines.specs.Limits.{most, enough};
 ghost use Rattle.report.specs.Stream.{Tells};
 
-use libc::{STDERR_FILENO, STDOUT_FILENO};
 use lines::{ENOUGH, Report, report};
-use streams::read_input;
+use std::io::Write;
+use streams::{complain, read_input};
 
 // "one beyond the longest possible input"
 const MOST: usize = 9237;
@@ -27,31 +27,31 @@ fn tell(input: &[u8], n: usize, space: &mut [u8]) -> usize
 }
 
 // Writes nothing but the text of what was read; false if it cannot be written.
-fn write(input: &[u8], n: usize, text: &[u8]) -> bool
+fn write<W: Write>(out: &mut W, input: &[u8], n: usize, text: &[u8]) -> bool
     requires { Tells input.now n text.now }
 {
-    io::write_all(STDOUT_FILENO, text)
+    out.write_all(text).is_ok()
 }
 
 // The stream that n bytes were read of.
-fn answer_to(input: &[u8], n: usize)
+fn answer_to<W: Write, E: Write>(out: &mut W, errors: &mut E, input: &[u8], n: usize)
     requires input_len { length input.now ≡ most }
     requires n_in_bounds { n ≤ length input.now }
 {
     let mut space = [0u8; ENOUGH];
     let end = tell(input, n, &mut space);
-    if !write(input, n, &space[..end]) {
-        io::write_all(STDERR_FILENO, b"report: the text cannot be written\n");
+    if !write(out, input, n, &space[..end]) {
+        complain(errors, b"report: the text cannot be written\n");
     }
 }
 
 // "it reads no more than 9,237 bytes"
-fn main() {
+fn main(rt: HostRuntime) {
     let mut input = [0u8; MOST];
-    let got = read_input(&mut input);
+    let got = read_input(&mut rt.stdin(), &mut input);
     if got.failed {
-        io::write_all(STDERR_FILENO, b"report: the input cannot be read\n");
+        complain(&mut rt.stderr(), b"report: the input cannot be read\n");
         return;
     }
-    answer_to(&input, got.bytes)
+    answer_to(&mut rt.stdout(), &mut rt.stderr(), &input, got.bytes)
 }

@@ -7,8 +7,8 @@ ghost use Rattle.lines.specs.Text.{refusal_line};
 ghost use Rattle.streams.specs.Streams.{most};
 
 use image::refusals::Refusal;
-use libc::{STDERR_FILENO, STDIN_FILENO};
 use lines::put_refusal;
+use std::io::{Read, Write};
 
 // How many bytes were read, and whether reading failed. An input that has filled its space may go on.
 #[derive(Clone, Copy)]
@@ -18,30 +18,29 @@ pub struct Input {
 }
 
 // One read: no bytes at the end of the input, and none where it failed.
-fn read_once(part: &mut [u8]) -> Input
+fn read_once<R: Read>(input: &mut R, part: &mut [u8]) -> Input
     ensures { result.bytes ≤ length part.new }
 {
-    let got = libc::read(STDIN_FILENO, part);
-    if got < 0 {
-        return Input {
+    match input.read(part) {
+        Ok(bytes) => Input {
+            bytes,
+            failed: false,
+        },
+        Err(_) => Input {
             bytes: 0,
             failed: true,
-        };
-    }
-    Input {
-        bytes: io::count(got, part),
-        failed: false,
+        },
     }
 }
 
 // Until the input ends or `space` is full, whichever is first.
-pub fn read_input(space: &mut [u8]) -> Input
+pub fn read_input<R: Read>(input: &mut R, space: &mut [u8]) -> Input
     requires { length space.old ≤ most }
     ensures { result.bytes ≤ length space.new }
 {
     let mut done: usize = 0;
     while done < space.len() {
-        let more = read_once(&mut space[done..]);
+        let more = read_once(input, &mut space[done..]);
         if more.bytes == 0 {
             return Input {
                 bytes: done,
@@ -57,15 +56,20 @@ pub fn read_input(space: &mut [u8]) -> Input
 }
 
 // Writes nothing but the line of this refusal.
-fn say(r: Refusal, line: &[u8])
+fn say<W: Write>(errors: &mut W, r: Refusal, line: &[u8])
     requires { line.now ≡ refusal_line (number_of r) (place_of r) }
 {
-    io::write_all(STDERR_FILENO, line);
+    complain(errors, line)
+}
+
+// Where even this cannot be written, nothing tells it.
+pub fn complain<W: Write>(errors: &mut W, line: &[u8]) {
+    let _ = errors.write_all(line);
 }
 
 // "its number and place, as `refused 9 at 0`"
-pub fn refuse(r: Refusal) {
+pub fn refuse<W: Write>(errors: &mut W, r: Refusal) {
     let mut space = [0u8; 64];
     let end = put_refusal(&mut space, r);
-    say(r, &space[..end])
+    say(errors, r, &space[..end])
 }
