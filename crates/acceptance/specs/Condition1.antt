@@ -15,7 +15,7 @@ use Rattle.written.specs.Grammar.{Refused17}
 use Rattle.written.specs.Limits.{Refused18}
 use Rattle.written.specs.Image.{written_image}
 use Rattle.written.specs.Told.{Holds, Told}
-use Rattle.written.specs.Theorem.ToldOne.{told_some}
+use Rattle.written.proofs.Theorem.ToldOne.{told_some}
 use Rattle.reading.specs.declared.write.ReadText.{ReadText}
 use Rattle.reading.specs.Reads.{read_answer, ReadsText}
 use Rattle.listing.specs.declared.Listed.{Listed}

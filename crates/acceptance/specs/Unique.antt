@@ -17,7 +17,7 @@ use Rattle.image.specs.Check.{answer_of, shape_of}
 use Rattle.image.specs.Refusals.{number_of, place_of}
 use Rattle.image.specs.Rows.{judge, check_rows}
 use Rattle.image.specs.Sets.{in_condition, condition_rows, set_answer}
-use Rattle.written.specs.Theorem.ToldOne.{told_one}
+use Rattle.written.proofs.Theorem.ToldOne.{told_one}
 use Rattle.reading.specs.declared.write.ReadText.{ReadText}
 use Rattle.reading.specs.Reads.{length_of, left_by, ReadsText}
 use Rattle.listing.specs.declared.Listed.{Listed}

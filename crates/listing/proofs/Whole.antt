@@ -18,8 +18,8 @@ use Rattle.text.specs.Inner.Puts.{Puts}
 use Rattle.written.specs.Count.{recordsˢ}
 use Rattle.written.specs.Word.{bytes}
 use Rattle.written.specs.Lister.{listedˢ, listed}
-use Rattle.written.specs.Theorem.Length.{LONGEST, at_most}
-use Rattle.written.specs.Theorem.ImageTree.{routine_under, routine_valid, routine_size}
+use Rattle.written.proofs.Theorem.Length.{LONGEST, at_most}
+use Rattle.written.proofs.Theorem.ImageTree.{routine_under, routine_valid, routine_size}
 use Rattle.listing.specs.declared.Listed.TheVariants.{Length, Refused}
 use Rattle.listing.specs.Lists.{listing_of, text_rows, Lists}
 use Rattle.listing.specs.Inner.Texts.{node_text}

@@ -15,7 +15,7 @@ use Rattle.image.specs.Term.{head_word, bytes_of, all_bytes}
 use Rattle.written.specs.Count.{recordsˢ}
 use Rattle.written.specs.Image.{record_bytes, choicesˢ, nodesˢ, written_image}
 use Rattle.written.specs.Told.{Holds, Told, no_space, read_as}
-use Rattle.written.specs.Theorem.ToldOne.{told_17, told_18, told_holds}
+use Rattle.written.proofs.Theorem.ToldOne.{told_17, told_18, told_holds}
 use Rattle.reading.specs.declared.number.Number.{Number}
 use Rattle.reading.specs.declared.write.ReadText.{ReadText}
 use Rattle.reading.specs.declared.write.ReadText.TheVariants.{Refused}

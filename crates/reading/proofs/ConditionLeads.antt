@@ -17,7 +17,7 @@ use Rattle.written.specs.Limits.{first_too_many}
 use Rattle.written.specs.Answer.{so_far, refused_17}
 use Rattle.written.specs.Count.{sizeᶜ}
 use Rattle.written.specs.Image.{wordsᶜ}
-use Rattle.written.specs.Theorem.From.{from}
+use Rattle.written.proofs.Theorem.From.{from}
 use Rattle.reading.specs.declared.cursor.Cursor.{Cursor}
 use Rattle.reading.specs.declared.lead.Lead.{Lead}
 use Rattle.reading.specs.Inner.Way.{Live, Logged, Good}

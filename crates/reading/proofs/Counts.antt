@@ -11,7 +11,7 @@ use Rattle.image.specs.Bytes.{Bytes}
 use Rattle.written.specs.Token.{Opens, nothing, node, record_of, Spot}
 use Rattle.written.specs.Limits.{NODES, RECORDS, first_over_by, first_over, first_too_many, whole_in}
 use Rattle.written.specs.Answer.{Answer, by_whole, limited}
-use Rattle.written.specs.Theorem.Scan.{reversed}
+use Rattle.written.proofs.Theorem.Scan.{reversed}
 use Rattle.reading.specs.Inner.Way.{node_of, record_in, nodes_in, records_in}
 
 nodes_append : (a b : List Spot) → nodes_in (a ++ b) ≡ nodes_in a + nodes_in b

@@ -11,7 +11,7 @@ use Rattle.image.specs.Term.{head_word, bytes_of, all_bytes}
 use Rattle.image.proofs.Theorem.Words.{length_bytes, length_all}
 use Rattle.image.proofs.Stores.{sets_app, over_is}
 use Rattle.written.specs.Image.{record_bytes}
-use Rattle.written.specs.Theorem.ImageRead.{length_records}
+use Rattle.written.proofs.Theorem.ImageRead.{length_records}
 use Rattle.reading.specs.declared.write.ReadText.TheVariants.{Length, Refused}
 use Rattle.reading.specs.Inner.Writing.{image_of, Writing, Writes}
 

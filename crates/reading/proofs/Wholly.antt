@@ -13,7 +13,7 @@ use Rattle.written.specs.Machine.{counts, statements, Reading, Stack, done, mark
 use Rattle.written.specs.Image.{choicesˢ, nodesˢ}
 use Rattle.written.specs.Limits.{NODES, RECORDS}
 use Rattle.written.specs.Answer.{answer}
-use Rattle.written.specs.Theorem.From.{from_start}
+use Rattle.written.proofs.Theorem.From.{from_start}
 use Rattle.reading.specs.declared.cursor.Cursor.{Cursor}
 use Rattle.reading.specs.declared.number.Number.{Number}
 use Rattle.reading.specs.Inner.Way.{nodes_in, records_in, Live, Logged, here, Good, Way}

@@ -1,4 +1,4 @@
--- The written form of a routine. Definitions first, in the order in which they are read; the theorems about them stand under `Theorem`.
+-- The written form of a routine, definition by definition in the order in which they are read. The theorems about them stand under `proofs/Theorem`.
 pub mod Byte
 pub mod Token
 pub mod Word
@@ -11,4 +11,3 @@ pub mod Answer
 pub mod Lister
 pub mod Image
 pub mod Told
-pub mod Theorem

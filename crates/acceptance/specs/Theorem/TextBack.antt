@@ -18,11 +18,11 @@ use Rattle.written.specs.Limits.{RECORDS}
 use Rattle.written.specs.Lister.{listed}
 use Rattle.written.specs.Image.{written_image}
 use Rattle.written.specs.Told.{Holds}
-use Rattle.written.specs.Theorem.ImageLength.{image_length}
-use Rattle.written.specs.Theorem.ImageTree.{routine_size}
-use Rattle.written.specs.Theorem.ListRead.{text_read}
-use Rattle.written.specs.Theorem.ToldOne.{reads_one}
-use Rattle.written.specs.Theorem.WrittenAccepted.{reading_accepted}
+use Rattle.written.proofs.Theorem.ImageLength.{image_length}
+use Rattle.written.proofs.Theorem.ImageTree.{routine_size}
+use Rattle.written.proofs.Theorem.ListRead.{text_read}
+use Rattle.written.proofs.Theorem.ToldOne.{reads_one}
+use Rattle.written.proofs.Theorem.WrittenAccepted.{reading_accepted}
 use Rattle.reading.specs.declared.write.ReadText.{ReadText}
 use Rattle.reading.specs.declared.write.ReadText.TheVariants.{Length as ReadLength}
 use Rattle.reading.specs.Reads.{ReadsText}

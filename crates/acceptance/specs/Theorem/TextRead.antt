@@ -15,11 +15,11 @@ use Rattle.written.specs.Count.{recordsˢ}
 use Rattle.written.specs.Grammar.{Reads}
 use Rattle.written.specs.Image.{written_image}
 use Rattle.written.specs.Told.{Holds, Told, text_wrong, too_many, no_space, read_as}
-use Rattle.written.specs.Theorem.Fits.{read_valid}
-use Rattle.written.specs.Theorem.ImageRead.{head_says}
-use Rattle.written.specs.Theorem.ListRead.{text_read}
-use Rattle.written.specs.Theorem.ToldOne.{reads_one}
-use Rattle.written.specs.Theorem.WrittenAccepted.{reading_accepted}
+use Rattle.written.proofs.Theorem.Fits.{read_valid}
+use Rattle.written.proofs.Theorem.ImageRead.{head_says}
+use Rattle.written.proofs.Theorem.ListRead.{text_read}
+use Rattle.written.proofs.Theorem.ToldOne.{reads_one}
+use Rattle.written.proofs.Theorem.WrittenAccepted.{reading_accepted}
 use Rattle.reading.specs.declared.write.ReadText.{ReadText}
 use Rattle.reading.specs.declared.write.ReadText.TheVariants.{Length, Refused}
 use Rattle.reading.specs.Reads.{read_answer, length_of, left_by, ReadsText}

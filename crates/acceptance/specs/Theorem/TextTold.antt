@@ -9,7 +9,7 @@ use Rattle.written.specs.Grammar.{Refused17}
 use Rattle.written.specs.Limits.{Refused18}
 use Rattle.written.specs.Image.{written_image}
 use Rattle.written.specs.Told.{Holds, Told, text_wrong, too_many, no_space, read_as}
-use Rattle.written.specs.Theorem.ToldOne.{told_one}
+use Rattle.written.proofs.Theorem.ToldOne.{told_one}
 use Rattle.reading.specs.declared.write.ReadText.{ReadText}
 use Rattle.reading.specs.Reads.{read_answer, length_of, left_by, ReadsText}
 

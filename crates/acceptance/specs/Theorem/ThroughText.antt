@@ -10,7 +10,7 @@ use Rattle.image.specs.Accepted.{Accepted}
 use Rattle.written.specs.Count.{recordsˢ}
 use Rattle.written.specs.Limits.{RECORDS}
 use Rattle.written.specs.Image.{written_image}
-use Rattle.written.specs.Theorem.WrittenPlain.{no_recordsˢ, written_plain}
+use Rattle.written.proofs.Theorem.WrittenPlain.{no_recordsˢ, written_plain}
 use Rattle.reading.specs.declared.write.ReadText.{ReadText}
 use Rattle.reading.specs.declared.write.ReadText.TheVariants.{Length as ReadLength}
 use Rattle.reading.specs.Reads.{ReadsText}

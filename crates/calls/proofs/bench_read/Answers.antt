@@ -2,7 +2,7 @@
 use native.Mathlib.Omega.{arith}
 use borrow.Author.Rules.{rules}
 use lib.ListN.{length}
-use Rattle.written.specs.Theorem.ToldOne.{told_some}
+use Rattle.written.proofs.Theorem.ToldOne.{told_some}
 use Rattle.calls.proofs.Answering.{refuses, keeps, answers, leaves}
 use Rattle.calls.proofs.bench_read.Goals as goal
 

@@ -3,7 +3,7 @@ use Rattle.std.specs.Prelude.{◌≡◌, Bool, List, ℕ, ℤ}
 use Rattle.std.proofs.Common.{sym, ◌∙◌, ap, subst}
 use Rattle.image.specs.Bytes.{Bytes}
 use Rattle.shared.specs.Lent.{Tally}
-use Rattle.written.specs.Theorem.ToldOne.{told_one}
+use Rattle.written.proofs.Theorem.ToldOne.{told_one}
 use Rattle.reading.specs.Reads.{left_by}
 use Rattle.calls.specs.declared.reply.Reply.{Reply}
 use Rattle.calls.specs.Space.{where_right, Answers}

@@ -17,9 +17,9 @@ use Rattle.written.specs.Count.{recordsˢ}
 use Rattle.written.specs.Limits.{NODES, RECORDS}
 use Rattle.written.specs.Image.{written_image}
 use Rattle.written.specs.Told.{Holds}
-use Rattle.written.specs.Theorem.Listing.{listed_is}
-use Rattle.written.specs.Theorem.ImageTree.{routine_under, routine_valid, routine_size}
-use Rattle.written.specs.Theorem.ImageRead.{image_read}
+use Rattle.written.proofs.Theorem.Listing.{listed_is}
+use Rattle.written.proofs.Theorem.ImageTree.{routine_under, routine_valid, routine_size}
+use Rattle.written.proofs.Theorem.ImageRead.{image_read}
 use Rattle.listing.specs.declared.Listed.TheVariants.{Length}
 use Rattle.listing.specs.Lists.{listing_of, text_rows, list_rows, Lists}
 

@@ -6,7 +6,7 @@ use Rattle.image.specs.Bytes.{Bytes}
 use Rattle.text.specs.Decimal.{digits, decimal, signed_decimal}
 use Rattle.written.specs.Byte.{is_digit}
 use Rattle.written.specs.Token.{Opens, variable, option, count, number, Extends, Decimal, Behind, Spells}
-use Rattle.written.specs.Theorem.Spacing.{and_both}
+use Rattle.written.proofs.Theorem.Spacing.{and_both}
 
 digit_is : (d : ℕ) → d ≤ 9 → T (is_digit (48 + d)) × (48 + d - 48 ≡ d)
 digit_is d h = (and_both (leb 48 (48 + d)) (leb (48 + d) 57) (le→leb 48 (48 + d) (omega arith)) (le→leb (48 + d) 57 (omega arith)), omega arith)

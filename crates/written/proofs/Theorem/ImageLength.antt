@@ -8,7 +8,7 @@ use Rattle.image.specs.Term.{head_word, bytes_of, all_bytes}
 use Rattle.image.proofs.Theorem.Words.{length_bytes, length_all}
 use Rattle.written.specs.Count.{sizeᶜ, recordsᵃ, recordsᵇ, recordsˢ}
 use Rattle.written.specs.Image.{choicesˢ, nodesᵃ, nodesᵇ, nodesˢ, record_bytes, written_image}
-use Rattle.written.specs.Theorem.ImageRead.{longˢ as records-long, length_records}
+use Rattle.written.proofs.Theorem.ImageRead.{longˢ as records-long, length_records}
 
 mutual
   unfolding nodesᵃ sizeᵃ

@@ -13,11 +13,11 @@ use Rattle.written.specs.Answer.{gives, refused_17, refused_18}
 use Rattle.written.specs.Answer as Machine
 use Rattle.written.specs.Image.{written_image}
 use Rattle.written.specs.Told.{Holds, Told, text_wrong, too_many, no_space, read_as}
-use Rattle.written.specs.Theorem.Reader.{unique}
-use Rattle.written.specs.Theorem.Places.{one_place}
-use Rattle.written.specs.Theorem.Answers.{one_18, refuses_18, refuses_17, gives_reading}
-use Rattle.written.specs.Theorem.Earlier.{earlier}
-use Rattle.written.specs.Theorem.Sizes.{gives_within}
+use Rattle.written.proofs.Theorem.Reader.{unique}
+use Rattle.written.proofs.Theorem.Places.{one_place}
+use Rattle.written.proofs.Theorem.Answers.{one_18, refuses_18, refuses_17, gives_reading}
+use Rattle.written.proofs.Theorem.Earlier.{earlier}
+use Rattle.written.proofs.Theorem.Sizes.{gives_within}
 
 -- ---- one answer
 

@@ -11,9 +11,9 @@ use Rattle.image.specs.Layout.{kinds, layout, names_node, field_fits}
 use Rattle.image.specs.Listing.{sizeᵃ, sizeᵇ, sizeˢ}
 use Rattle.written.specs.Count.{sizeᶜ, recordsᵃ, recordsᵇ, recordsˢ}
 use Rattle.written.specs.Image.{nodesᵃ, nodesᵇ, nodesˢ}
-use Rattle.written.specs.Theorem.Back.{Nodes, someᶜ}
-use Rattle.written.specs.Theorem.Stretch.{Tree, number_tree}
-use Rattle.written.specs.Theorem.Shapes.{no_child, one_child, two_children, three_children, chosen}
+use Rattle.written.proofs.Theorem.Back.{Nodes, someᶜ}
+use Rattle.written.proofs.Theorem.Stretch.{Tree, number_tree}
+use Rattle.written.proofs.Theorem.Shapes.{no_child, one_child, two_children, three_children, chosen}
 
 module _ (l : List ℕ) (C : ℕ) (few : C ≤ 4096) where
   mutual

@@ -14,7 +14,7 @@ use Rattle.written.specs.Word.{OPTIONS, SKIP, IF, THEN, ELSE, WHILE, DO, THROW, 
 use Rattle.written.specs.Grammar.{of_condition, of_arithmetic, of_boolean, of_statement, of_routine, Placed, Reads}
 use Rattle.written.specs.Under.{Underᶜ, Underᵃ, Underᵇ, Under}
 use Rattle.written.specs.Lister.{listedᶜ, listedᵃ, listedᵇ, DEEPEST, spaces, line, gap, short, listedˢ, listed}
-use Rattle.written.specs.Theorem.Spelled.{variable_spelled, option_spelled, count_spelled, number_spelled}
+use Rattle.written.proofs.Theorem.Spelled.{variable_spelled, option_spelled, count_spelled, number_spelled}
 
 -- ---- texts of tokens
 

@@ -16,13 +16,13 @@ use Rattle.written.specs.Under.{Under}
 use Rattle.written.specs.Count.{recordsˢ}
 use Rattle.written.specs.Image.{choicesˢ, written_image}
 use Rattle.written.specs.Told.{Holds}
-use Rattle.written.specs.Theorem.Back.{someˢ}
-use Rattle.written.specs.Theorem.ImageRead.{longˢ, head_says, records_are, nodes_are}
-use Rattle.written.specs.Theorem.Stretch.{Passes, Tree}
-use Rattle.written.specs.Theorem.NodesFit.{treeˢ}
-use Rattle.written.specs.Theorem.RecordsFit.{fitˢ, each_fits}
-use Rattle.written.specs.Theorem.ImageLength.{image_length}
-use Rattle.written.specs.Theorem.Fits.{read_valid}
+use Rattle.written.proofs.Theorem.Back.{someˢ}
+use Rattle.written.proofs.Theorem.ImageRead.{longˢ, head_says, records_are, nodes_are}
+use Rattle.written.proofs.Theorem.Stretch.{Passes, Tree}
+use Rattle.written.proofs.Theorem.NodesFit.{treeˢ}
+use Rattle.written.proofs.Theorem.RecordsFit.{fitˢ, each_fits}
+use Rattle.written.proofs.Theorem.ImageLength.{image_length}
+use Rattle.written.proofs.Theorem.Fits.{read_valid}
 
 -- the root of a stretch that is the whole image is a statement
 root_classed : (l : Bytes) (P : ℕ) → (header l).nodes ≡ P → class l (P - 1) ≡ 3 → (n : ℕ) → cond (eqb (suc n) (header l).nodes) (eqb (class l n) 3) true ≡ true

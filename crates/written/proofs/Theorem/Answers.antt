@@ -11,15 +11,15 @@ use Rattle.written.specs.Grammar.{Placed, Refused17}
 use Rattle.written.specs.Machine.{Result, State, step, start, Outcome, read, refused, outcome}
 use Rattle.written.specs.Limits.{first_too_many, runs_on, whole_in, Refused18}
 use Rattle.written.specs.Answer.{so_far, or_stay, last, or_none, reach, Answer, gives, refused_17, refused_18, within, by_whole, limited, answer}
-use Rattle.written.specs.Theorem.Language.{Lang, Then}
-use Rattle.written.specs.Theorem.Spacing.{is_on, and_parts, and_both}
-use Rattle.written.specs.Theorem.Steps.{step_sound}
-use Rattle.written.specs.Theorem.Ends.{live}
-use Rattle.written.specs.Theorem.Reader.{result, start_sound, start_complete, reads_placed}
-use Rattle.written.specs.Theorem.Places.{together, take_more, refuses}
-use Rattle.written.specs.Theorem.Scan.{kept_more}
-use Rattle.written.specs.Theorem.Now.{Now}
-use Rattle.written.specs.Theorem.Limits.{settled, stays, last_lang, reach_most, now_last, lang_last, Same, last_more}
+use Rattle.written.proofs.Theorem.Language.{Lang, Then}
+use Rattle.written.proofs.Theorem.Spacing.{is_on, and_parts, and_both}
+use Rattle.written.proofs.Theorem.Steps.{step_sound}
+use Rattle.written.proofs.Theorem.Ends.{live}
+use Rattle.written.proofs.Theorem.Reader.{result, start_sound, start_complete, reads_placed}
+use Rattle.written.proofs.Theorem.Places.{together, take_more, refuses}
+use Rattle.written.proofs.Theorem.Scan.{kept_more}
+use Rattle.written.proofs.Theorem.Now.{Now}
+use Rattle.written.proofs.Theorem.Limits.{settled, stays, last_lang, reach_most, now_last, lang_last, Same, last_more}
 
 -- ---- answers apart
 

@@ -10,11 +10,11 @@ use Rattle.written.specs.Token.{Token, nothing, node, fixed, tight, Extends, Dec
 use Rattle.written.specs.Grammar.{of_condition, of_arithmetic, of_boolean, of_statement}
 use Rattle.written.specs.Machine.{Result, Log, Begun, noted, behind, Class, statements, arithmetics, booleans, conditions, variables, joins, counts, Value, Stack, done, mark, want, State, plain, fork, first, digits, low, look, forks, step, ended, final}
 use Rattle.written.specs.Answer.{so_far}
-use Rattle.written.specs.Theorem.Language.{Choices, Rest, spell, tokens_of, result_of, Left, Past, From, Upto, Lang, Then}
-use Rattle.written.specs.Theorem.Spacing.{not_empty}
-use Rattle.written.specs.Theorem.Leads.{fixed_back}
-use Rattle.written.specs.Theorem.Begins.{variable_head}
-use Rattle.written.specs.Theorem.Steps.{not_t, moved, step_sound}
+use Rattle.written.proofs.Theorem.Language.{Choices, Rest, spell, tokens_of, result_of, Left, Past, From, Upto, Lang, Then}
+use Rattle.written.proofs.Theorem.Spacing.{not_empty}
+use Rattle.written.proofs.Theorem.Leads.{fixed_back}
+use Rattle.written.proofs.Theorem.Begins.{variable_head}
+use Rattle.written.proofs.Theorem.Steps.{not_t, moved, step_sound}
 use Rattle.written.specs.Word.{SKIP, BRACE, IF, WHILE, BRACKET, THROW, TRY, CATCH, WITH}
 
 -- ---- the end

@@ -19,7 +19,7 @@ use Rattle.image.proofs.Theorem.Words.{AllWords, length_bytes, number_bytes}
 use Rattle.written.specs.Under.{Underᶜ, Underᵃ, Underᵇ, Under}
 use Rattle.written.specs.Count.{sizeᶜ, recordsᵃ, recordsᵇ, recordsˢ}
 use Rattle.written.specs.Image.{wordsᶜ, choicesᵃ, choicesᵇ, choicesˢ, nodesᵃ, nodesᵇ, nodesˢ, record_bytes, written_image}
-use Rattle.written.specs.Theorem.Back.{Nodes, Records, someᶜ, someᵃ, someᵇ, someˢ, backˢ}
+use Rattle.written.proofs.Theorem.Back.{Nodes, Records, someᶜ, someᵃ, someᵇ, someˢ, backˢ}
 
 -- ---- words of 64 and 32 bits
 

@@ -17,9 +17,9 @@ use Rattle.image.proofs.Theorem.RoundTrip.{image_accepted, image_shape, reads_ba
 use Rattle.written.specs.Grammar.{Reads}
 use Rattle.written.specs.Lister.{listed}
 use Rattle.written.specs.Image.{written_image}
-use Rattle.written.specs.Theorem.ImageTree.{routine_valid, routine_size}
-use Rattle.written.specs.Theorem.WrittenPlain.{written_plain}
-use Rattle.written.specs.Theorem.ListRead.{list_read}
+use Rattle.written.proofs.Theorem.ImageTree.{routine_valid, routine_size}
+use Rattle.written.proofs.Theorem.WrittenPlain.{written_plain}
+use Rattle.written.proofs.Theorem.ListRead.{list_read}
 
 -- ---- a configured routine is no larger
 

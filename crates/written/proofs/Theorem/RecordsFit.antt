@@ -12,7 +12,7 @@ use Rattle.image.specs.Term.{condition_word}
 use Rattle.written.specs.Under.{Underᶜ, Underᵃ, Underᵇ, Under}
 use Rattle.written.specs.Count.{sizeᶜ, recordsᵃ, recordsᵇ, recordsˢ}
 use Rattle.written.specs.Image.{wordsᶜ, choicesᵃ, choicesᵇ, choicesˢ}
-use Rattle.written.specs.Theorem.Back.{Records, someᶜ}
+use Rattle.written.proofs.Theorem.Back.{Records, someᶜ}
 
 -- ---- a record
 

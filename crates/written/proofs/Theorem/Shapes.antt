@@ -5,7 +5,7 @@ use Rattle.std.proofs.lemmas.Bool.{false≢true}
 use Rattle.image.specs.Records.{node, node_fields}
 use Rattle.image.specs.Layout.{layout, class_digit, variable_digit, a_digit, b_digit, c_digit, names_node, field_fits}
 use Rattle.image.specs.Term.{node_word}
-use Rattle.written.specs.Theorem.Stretch.{Tree, Slot, Known, empty, numbered, child, joined}
+use Rattle.written.proofs.Theorem.Stretch.{Tree, Slot, Known, empty, numbered, child, joined}
 
 -- a kind of the table, which is not that of a number
 abbrev pub of_table : ℕ → Bool

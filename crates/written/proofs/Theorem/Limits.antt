@@ -14,14 +14,14 @@ use Rattle.written.specs.Token.{node, Spot, Decimal}
 use Rattle.written.specs.Machine.{statements, Result, Stack, want, Log, Begun, noted, behind, State, plain, fork, first, digits, forks, step, final}
 use Rattle.written.specs.Limits.{first_too_many}
 use Rattle.written.specs.Answer.{so_far, or_stay, last, or_none, reach}
-use Rattle.written.specs.Theorem.Language.{Left, Past, From, Upto, Lang, Then}
-use Rattle.written.specs.Theorem.Spacing.{or_left, and_both}
-use Rattle.written.specs.Theorem.Decimals.{shorter}
-use Rattle.written.specs.Theorem.Leads.{look_sound}
-use Rattle.written.specs.Theorem.Steps.{step_sound, step_complete}
-use Rattle.written.specs.Theorem.Ends.{final_complete}
-use Rattle.written.specs.Theorem.Scan.{Every, kept_more, kept_less, later}
-use Rattle.written.specs.Theorem.Now.{Now, Now?, now_step}
+use Rattle.written.proofs.Theorem.Language.{Left, Past, From, Upto, Lang, Then}
+use Rattle.written.proofs.Theorem.Spacing.{or_left, and_both}
+use Rattle.written.proofs.Theorem.Decimals.{shorter}
+use Rattle.written.proofs.Theorem.Leads.{look_sound}
+use Rattle.written.proofs.Theorem.Steps.{step_sound, step_complete}
+use Rattle.written.proofs.Theorem.Ends.{final_complete}
+use Rattle.written.proofs.Theorem.Scan.{Every, kept_more, kept_less, later}
+use Rattle.written.proofs.Theorem.Now.{Now, Now?, now_step}
 
 -- ---- what a state has for certain
 

@@ -16,11 +16,11 @@ use Rattle.written.specs.Grammar.{Reads}
 use Rattle.written.specs.Lister.{listed}
 use Rattle.written.specs.Image.{written_image}
 use Rattle.written.specs.Told.{Holds, Told, read_as}
-use Rattle.written.specs.Theorem.Fits.{read_valid}
-use Rattle.written.specs.Theorem.ImageRead.{head_says, image_read}
-use Rattle.written.specs.Theorem.ImageTree.{routine_under, routine_valid, routine_size}
-use Rattle.written.specs.Theorem.Listing.{listed_is}
-use Rattle.written.specs.Theorem.ToldOne.{reads_one}
+use Rattle.written.proofs.Theorem.Fits.{read_valid}
+use Rattle.written.proofs.Theorem.ImageRead.{head_says, image_read}
+use Rattle.written.proofs.Theorem.ImageTree.{routine_under, routine_valid, routine_size}
+use Rattle.written.proofs.Theorem.Listing.{listed_is}
+use Rattle.written.proofs.Theorem.ToldOne.{reads_one}
 
 -- ---- an image that was read
 

@@ -14,12 +14,12 @@ use Rattle.written.specs.Machine.{Result, Log, behind, State, plain, fork, first
 use Rattle.written.specs.Limits.{first_over_by, first_over, first_too_many, Refused18}
 use Rattle.written.specs.Answer.{so_far, last, gives, answer}
 use Rattle.written.specs.Count.{sizeᶜ, recordsᵃ, recordsᵇ, recordsˢ}
-use Rattle.written.specs.Theorem.Language.{Lang}
-use Rattle.written.specs.Theorem.Ends.{final_complete}
-use Rattle.written.specs.Theorem.Reader.{result, start_complete}
-use Rattle.written.specs.Theorem.Limits.{lang_last}
-use Rattle.written.specs.Theorem.Answers.{noted_18, gives_reading}
-use Rattle.written.specs.Theorem.Earlier.{within_limits}
+use Rattle.written.proofs.Theorem.Language.{Lang}
+use Rattle.written.proofs.Theorem.Ends.{final_complete}
+use Rattle.written.proofs.Theorem.Reader.{result, start_complete}
+use Rattle.written.proofs.Theorem.Limits.{lang_last}
+use Rattle.written.proofs.Theorem.Answers.{noted_18, gives_reading}
+use Rattle.written.proofs.Theorem.Earlier.{within_limits}
 
 -- ---- how many nodes and records some tokens open, with those of the rest
 

@@ -1,0 +1,2 @@
+-- The theorems about the definitions of `specs/`.
+pub mod Theorem
