@@ -1,10 +1,9 @@
 -- `put` meets its contract: before each turn the first i bytes are written.
 use mathlib.Core.Path.{◌≡◌, refl, ◌∙◌, ap}
-use Prim.Native.Nat.{◌+◌, ◌-◌, ◌≤◌}
+use Prim.Native.Nat.{◌+◌}
 use native.Mathlib.Omega.{arith}
 use lib.ListN.{length, get_or, set, take, length-set}
 use lib.Seq.{sets, take-length}
-use borrow.Author.Rules.{rules}
 use Rattle.text.proofs.Putting.{one_more}
 use Rattle.text.proofs.put.Goals as goal
 

@@ -5,57 +5,41 @@ use Prim.Native.Nat.{◌-◌}
 use native.Mathlib.Omega.{arith}
 use lib.ListN.{length, length-set}
 use mir.Facts.{to_z-of_z}
-use borrow.Author.Rules.{rules}
 use Rattle.imp.specs.Numbers.{low32}
 use Rattle.text.specs.Decimal.{decimal, signed_decimal}
 use Rattle.text.proofs.Putting.{then, byte, same}
 use Rattle.text.proofs.Signs.{plain, minus}
-use Rattle.text.proofs.decimal.put_signed.Lts as lts
-use Rattle.text.proofs.decimal.put_signed.Reads as reads
-use Rattle.text.proofs.decimal.put_signed.Tie as tie
 use Rattle.text.proofs.decimal.put_signed.Goals as goal
-
-abbrev After-bits-n : Type 0
-After-bits-n = lts.After-bits tie.the-claims reads.Pre reads.Post
-
-abbrev Then-n-lt2147483648 : Type 0
-Then-n-lt2147483648 = lts.Then1 tie.the-claims reads.Pre reads.Post
-
-abbrev Start : Type 0
-Start = lts.Start tie.the-claims reads.Pre reads.Post
-
-abbrev Else-n-lt2147483648 : Type 0
-Else-n-lt2147483648 = lts.Else1 tie.the-claims reads.Pre reads.Post
-
-bits_are : (c : After-bits-n) → c.bits-n.result ≡ low32 c.args.z
-bits_are c = c.bits-n.ensures ∙ ap low32 (to_z-of_z c.ranges.z)
+use Rattle.text.proofs.decimal.put_signed.Goals.{Then-n-lt2147483648, Else-n-lt2147483648}
 
 below : (c : Then-n-lt2147483648) → decimal c.bits-n.result ≡ signed_decimal c.args.z
 below c =
-    ap decimal (bits_are c.before) ∙ plain c.args.z c.ranges.z (omega (arith, bits_are c.before, c.if-n-lt2147483648.true))
+    let bits_are : c.bits-n.result ≡ low32 c.args.z = c.bits-n.ensures ∙ ap low32 (to_z-of_z c.ranges.z) in
+    ap decimal bits_are ∙ plain c.args.z c.ranges.z (omega (arith, bits_are, c.if-n-lt2147483648.true))
 
 above : (c : Else-n-lt2147483648) → 45 ∷ decimal (4294967296 - c.bits-n.result) ≡ signed_decimal c.args.z
 above c =
-    ap (λ n. 45 ∷ decimal (4294967296 - n)) (bits_are c.before) ∙ minus c.args.z c.ranges.z (omega (arith, bits_are c.before, c.if-n-lt2147483648.false))
+    let bits_are : c.bits-n.result ≡ low32 c.args.z = c.bits-n.ensures ∙ ap low32 (to_z-of_z c.ranges.z) in
+    ap (λ n. 45 ∷ decimal (4294967296 - n)) bits_are ∙ minus c.args.z c.ranges.z (omega (arith, bits_are, c.if-n-lt2147483648.false))
 
 pub put_decimal-requires : goal.put_decimal-requires
 put_decimal-requires c =
-    omega (arith, c.requires, ap length (below c.before))
+    omega (arith, c.requires, ap length (below (goal.at.put_decimal-requires c).Then-n-lt2147483648))
 
 pub returns-then-n-lt2147483648 : goal.returns-then-n-lt2147483648
-returns-then-n-lt2147483648 c = same (below c.before.before.before.before.before) c.put_decimal.ensures
+returns-then-n-lt2147483648 c = same (below (goal.at.returns-then-n-lt2147483648 c).Then-n-lt2147483648) c.put_decimal.ensures
 
 pub bounds-out-at : goal.bounds-out-at
 bounds-out-at c = omega (arith, c.requires, ap length (above c))
 
 pub put_decimal-requires-2 : goal.put_decimal-requires-2
 put_decimal-requires-2 c =
-    omega (arith, c.requires, ap length (above c.before), length-set c.args.out.now c.args.at 45)
+    omega (arith, c.requires, ap length (above (goal.at.put_decimal-requires-2 c).Else-n-lt2147483648), length-set c.args.out.now c.args.at 45)
 
 pub shape_of-out : goal.shape_of-out
 shape_of-out c =
-    c.put_decimal-2.auto.0 ∙ length-set c.args.out.now c.args.at 45
+    c.put_decimal-2.auto.out ∙ length-set c.args.out.now c.args.at 45
 
 pub returns : goal.returns
 returns c =
-    same (above c.before.before.before.before.before) (then (byte 45 c.args.at c.args.out.now (bounds-out-at c.before.before.before.before.before)) c.put_decimal-2.ensures)
+    same (above (goal.at.returns c).Else-n-lt2147483648) (then (byte 45 c.args.at c.args.out.now (bounds-out-at (goal.at.returns c).Else-n-lt2147483648)) c.put_decimal-2.ensures)
