@@ -1,12 +1,9 @@
 -- Each first byte tells a kind, and no other byte begins a condition.
 use mathlib.Core.Path.{sym, ◌∙◌, subst}
 use native.Mathlib.Omega.{arith}
-use Rattle.reading.specs.Inner.Way.{Good}
-use Rattle.reading.specs.Inner.Between.{Meets}
 use Rattle.reading.specs.Inner.ConditionLead.{ConditionFrom}
 use Rattle.reading.proofs.Passing.{token_met, token_good}
 use Rattle.reading.proofs.ConditionLeads.{condition_refused, true_from, false_from, not_from, bracket_from, option_from, none_from}
-use borrow.Author.Rules.{rules}
 use Rattle.reading.proofs.condition_lead.condition_lead.Goals as goal
 
 pub returns-then-c-ne0 : goal.returns-then-c-ne0

@@ -1,9 +1,6 @@
 -- An `or` by its first byte, or else an `and`.
-use Rattle.reading.specs.Inner.Way.{Good}
-use Rattle.reading.specs.Inner.Between.{Meets}
 use Rattle.reading.proofs.Passing.{token_met, token_good}
 use Rattle.reading.proofs.Joining.{join_refused, or_from, and_from}
-use borrow.Author.Rules.{rules}
 use Rattle.reading.proofs.condition_lead.join.Goals as goal
 
 pub returns-then-c-ne0 : goal.returns-then-c-ne0

@@ -1,14 +1,9 @@
 -- Each first byte tells a kind, and no other byte begins such a part.
-use mathlib.Core.Path.{◌≡◌, sym, ◌∙◌, subst}
-use Prim.Native.Nat.{suc, ◌≤◌}
-use lib.ListN.{length}
-use Rattle.reading.specs.Inner.Way.{Good}
-use Rattle.reading.specs.Inner.Between.{Meets}
+use mathlib.Core.Path.{sym, ◌∙◌, subst}
 use Rattle.reading.specs.Inner.Lead.{LeadFrom}
 use Rattle.reading.proofs.Passing.{token_met, token_good}
 use Rattle.reading.proofs.Classes.{arithmetic_refused, negative_from, named_from, sum_from, pick_from, value_choice_from, counted_from, no_arithmetic}
 use native.Mathlib.Omega.{arith}
-use borrow.Author.Rules.{rules}
 use Rattle.reading.proofs.lead.arithmetic_lead.Goals as goal
 
 pub returns-then-c-ne0 : goal.returns-then-c-ne0

@@ -1,5 +1,4 @@
 -- The second byte decides between throw and try.
-use borrow.Author.Rules.{rules}
 use Rattle.reading.proofs.LeadReturns.{fork_throw, fork_try}
 use Rattle.reading.proofs.lead.by_t.Goals as goal
 

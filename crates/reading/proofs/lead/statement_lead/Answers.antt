@@ -1,14 +1,9 @@
 -- Each first byte tells a kind, and no other byte begins such a part.
-use mathlib.Core.Path.{◌≡◌, sym, ◌∙◌, subst}
-use Prim.Native.Nat.{suc, ◌≤◌}
-use lib.ListN.{length}
-use Rattle.reading.specs.Inner.Way.{Good}
-use Rattle.reading.specs.Inner.Between.{Meets}
+use mathlib.Core.Path.{sym, ◌∙◌, subst}
 use Rattle.reading.specs.Inner.Lead.{LeadFrom}
 use Rattle.reading.proofs.Passing.{token_met, token_good}
 use Rattle.reading.proofs.Classes.{statement_refused, skip_from, assign_from, sequence_from, if_from, while_from, fork_from, choice_from, no_statement}
 use native.Mathlib.Omega.{arith}
-use borrow.Author.Rules.{rules}
 use Rattle.reading.proofs.lead.statement_lead.Goals as goal
 
 pub returns-then-c-ne0 : goal.returns-then-c-ne0

@@ -4,7 +4,6 @@ use Rattle.written.specs.Word.{LEFT, RIGHT, PLUS, BELOW, AND, ASK, COLON, UNBRAC
 use Rattle.reading.specs.Inner.Parts.{words}
 use Rattle.reading.proofs.Marking.{some_mark, no_mark, no_word}
 use native.Mathlib.Omega.{arith}
-use borrow.Author.Rules.{rules}
 use Rattle.reading.proofs.mark.mark.Goals as goal
 
 pub returns-in-1 : goal.returns-in-1

@@ -1,10 +1,7 @@
 -- The token that comes is a variable, or it is refused at its first byte.
 use native.Mathlib.Omega.{arith}
-use Rattle.reading.specs.Inner.Way.{Good}
-use Rattle.reading.specs.Inner.Between.{Meets}
 use Rattle.reading.proofs.Passing.{token_met, token_good}
 use Rattle.reading.proofs.Between.{no_token, no_variable, a_variable}
-use borrow.Author.Rules.{rules}
 use Rattle.reading.proofs.node.variable.Goals as goal
 
 pub returns-then-d-ne0 : goal.returns-then-d-ne0

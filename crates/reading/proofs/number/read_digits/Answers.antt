@@ -1,9 +1,8 @@
 -- The loop's invariant: the digits read so far have made the value, and the rest goes on with it.
-use Prim.Native.Nat.{◌-◌}
 use native.Mathlib.Omega.{arith}
 use borrow.Author.Rules.{rules}
-use lib.ListN.{length, get_or}
-use Rattle.reading.proofs.Loops.{DigitsSoFar, digits_start, digits_no_digit, digits_over_most, digits_one_more, digits_end, digit_low, digit_high}
+use lib.ListN.{get_or}
+use Rattle.reading.proofs.Loops.{digits_start, digits_no_digit, digits_over_most, digits_one_more, digits_end, digit_low, digit_high}
 use Rattle.reading.proofs.number.read_digits.Goals as goal
 
 pub loop-at-init : goal.loop-at-init

@@ -1,10 +1,7 @@
 -- The token that comes is a number up to 6.
 use native.Mathlib.Omega.{arith}
-use Rattle.reading.specs.Inner.Way.{Good}
-use Rattle.reading.specs.Inner.Between.{Meets}
 use Rattle.reading.proofs.Passing.{token_met, token_good}
 use Rattle.reading.proofs.Counting.{no_count, a_count}
-use borrow.Author.Rules.{rules}
 use Rattle.reading.proofs.whole.count.Goals as goal
 
 pub returns-then-d-ne0 : goal.returns-then-d-ne0
