@@ -68,7 +68,7 @@ module _ (text : Bytes) (F : ℕ) (c : Cursor) (T : List ℕ) (o : Lead) (ready 
     pub leaf_reads : {r : Cursor} {T' : List ℕ} → (o.kind ≡ 3 → ⊥) → (o.kind ≡ 4 → ⊥) → Stores o.cursor o.kind o.value 0 0 T T' r → ReadsCondition text F c r T T'
     leaf_reads m n S =
         let k : Condition = leaf o.kind o.value in
-        let one = C.is_IsLeaf l m n in
+        let one = C.is_leaf l m n in
         reads_all S text F c k T
         (λ h. subst (Way text c o.cursor (want F conditions h)) (rest_leaf F o.kind o.value h m n) (C.way h))
         (λ i. record {

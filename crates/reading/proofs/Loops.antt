@@ -6,7 +6,7 @@ use native.Mathlib.Omega.{arith}
 use lib.Dec.{eqb, leb, ltb}
 use lib.ListN.{length, drop, get_or, drop_of_length-le}
 use lib.Seq.{drop-cons}
-use borrow.Author.Tests.{not_true, not-false, eq-eqb, ne_eqb, eqb-true, eqb-false, ltb-true, ltb-false, lt-ltb, le-ltb, le-leb, lt-leb, leb-true}
+use borrow.Author.Tests.{not-true, not-false, eq-eqb, ne_eqb, eqb-true, eqb-false, ltb-true, ltb-false, lt-ltb, le-ltb, le-leb, lt-leb, leb-true}
 use Rattle.image.specs.Bytes.{Bytes}
 use Rattle.written.specs.Byte.{is_space, is_digit}
 use Rattle.reading.specs.Inner.Spelling.{agree, goes_on, more_digits, made}
@@ -71,7 +71,7 @@ spaces_start text from h = record { inside = h; all = refl }
 
 pub spaces_stop : (text : Bytes) (from at : ℕ) (u : Bool) → SpacesSoFar text from at → at < length text → u ≡ is_space (get_or text at 0) → not u ≡ true
     → at ≡ from + spaces_in (drop from text)
-spaces_stop text from at u r h e n = omega (arith, r.all, no_space text at h (sym e ∙ not_true u n))
+spaces_stop text from at u r h e n = omega (arith, r.all, no_space text at h (sym e ∙ not-true u n))
 
 pub spaces_more : (text : Bytes) (from at : ℕ) (u : Bool) → SpacesSoFar text from at → at < length text → u ≡ is_space (get_or text at 0) → not u ≡ false
     → SpacesSoFar text from (at + 1)
@@ -142,7 +142,7 @@ pub digits_no_digit : (text : Bytes) (from n most at value b : ℕ) (u : Bool) �
     → DigitsFrom text from n most (record { at = at; value = value })
 digits_no_digit text from n most at value b u r h e f k =
     digits_halt text from n most at value r h
-    (ap (λ v. v && (ltb 0 value && leb (value * 10 + (get_or text at 0 - 48)) most)) (ap is_digit (sym e) ∙ sym f ∙ not_true u k))
+    (ap (λ v. v && (ltb 0 value && leb (value * 10 + (get_or text at 0 - 48)) most)) (ap is_digit (sym e) ∙ sym f ∙ not-true u k))
 
 over_off : (value next most : ℕ) → (eqb value 0 || ltb most next) ≡ true → (ltb 0 value && leb next most) ≡ false
 over_off value next most e = by (eqb value 0) refl e

@@ -5,7 +5,7 @@ use mathlib.Core.Bool.{Bool, true, false, not, cond, ◌&&◌, ◌||◌, true≢
 use native.Mathlib.Omega.{arith}
 use lib.Dec.{leb, ltb}
 use lib.ListN.{length, drop, get_or, get_or-eq_default}
-use borrow.Author.Tests.{not_true, not-false, ltb-true, ltb-false, le-leb, lt-leb}
+use borrow.Author.Tests.{not-true, not-false, ltb-true, ltb-false, le-leb, lt-leb}
 use Rattle.image.specs.Bytes.{Bytes}
 use Rattle.written.specs.Byte.{is_digit, is_run}
 use Rattle.written.specs.Token.{Opens}
@@ -82,7 +82,7 @@ module _ (text : Bytes) (c : Cursor) (at : ℕ) (p : Bool) (hi : ℕ) (o : Opens
 
   pub no_digit : (b : ℕ) (u : Bool) (r : Number) → b ≡ get_or text at 0 → u ≡ is_digit b → not u ≡ true → (r.cursor ≡ refused_at c 17 at) × (r.value ≡ 0) → NumberFrom text c at p hi o r
   no_digit b u r e f n k =
-      none_from at r (unfit (ap (λ v. v && (leb (low p) (get_or text at 0 - 48) && leb (get_or text at 0 - 48) (low p + hi))) (ap is_digit (sym e) ∙ sym f ∙ not_true u n))) k
+      none_from at r (unfit (ap (λ v. v && (leb (low p) (get_or text at 0 - 48) && leb (get_or text at 0 - 48) (low p + hi))) (ap is_digit (sym e) ∙ sym f ∙ not-true u n))) k
 
   pub out_of_range : (lo b : ℕ) (r : Number) → lo ≡ low p → b ≡ get_or text at 0 → (ltb (b - 48) lo || ltb (lo + hi) (b - 48)) ≡ true
       → (r.cursor ≡ refused_at c 17 at) × (r.value ≡ 0) → NumberFrom text c at p hi o r

@@ -1,7 +1,6 @@
 -- What the machine answers, and where it reads a routine, the image of it.
 use mathlib.Core.List.{[]}
 use Rattle.reading.proofs.Answering.{says_17, says_18, to_write, says_image}
-use borrow.Author.Rules.{rules}
 use Rattle.reading.proofs.read.Goals as goal
 
 pub returns-then-c-eq-TEXT_WRONG : goal.returns-then-c-eq-TEXT_WRONG

@@ -5,7 +5,6 @@ use native.Mathlib.Omega.{arith}
 use lib.ListN.{set, length-set}
 use Rattle.reading.specs.declared.cursor.Cursor.{Cursor}
 use Rattle.reading.specs.Inner.Storing.{written_on}
-use borrow.Author.Rules.{rules}
 use Rattle.reading.proofs.condition.store.Goals as goal
 
 one_on : (c : Cursor) → record { at = c.at; tight = c.tight; nodes = c.nodes; records = c.records; node = c.node; condition = c.condition + 1; refused = c.refused } ≡ written_on c

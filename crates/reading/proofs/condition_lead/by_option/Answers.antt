@@ -11,7 +11,6 @@ use Rattle.reading.specs.declared.number.Number.{Number}
 use Rattle.reading.specs.Inner.Token.{opens_of}
 use Rattle.reading.specs.Inner.Number.{NumberFrom}
 use Rattle.reading.specs.Inner.ConditionLead.{OptionLead}
-use borrow.Author.Rules.{rules}
 use Rattle.reading.proofs.condition_lead.by_option.Goals as goal
 
 -- a number from 0 to F - 1

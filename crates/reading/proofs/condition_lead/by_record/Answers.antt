@@ -1,5 +1,4 @@
 -- The word is read, and what it opens is a record.
-use borrow.Author.Rules.{rules}
 use mathlib.Core.Path.{ap}
 use Rattle.reading.specs.Inner.Token.{opens_of}
 use Rattle.reading.proofs.condition_lead.by_record.Goals as goal

@@ -1,7 +1,6 @@
 -- The names are those of the parts, and there is a place for the node since it has been opened.
 use native.Mathlib.Omega.{arith}
 use Rattle.reading.proofs.Finishing.{finish_refused, own_fields, finish_writes}
-use borrow.Author.Rules.{rules}
 use Rattle.reading.proofs.finish.finish.Goals as goal
 
 pub returns-then-c-ne0 : goal.returns-then-c-ne0

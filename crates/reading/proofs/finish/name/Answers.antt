@@ -1,6 +1,5 @@
 -- Each of the five slots has its name.
 use Rattle.reading.proofs.Finishing.{name_node, name_condition, name_none}
-use borrow.Author.Rules.{rules}
 use Rattle.reading.proofs.finish.name.Goals as goal
 
 pub returns-then-names_node : goal.returns-then-names_node

@@ -2,7 +2,6 @@
 use lib.Dec.{eqb}
 use borrow.Author.Tests.{eq-eqb, ne_eqb}
 use Rattle.reading.proofs.Returns.{on, off}
-use borrow.Author.Rules.{rules}
 use Rattle.reading.proofs.finish.number_of.Goals as goal
 
 pub returns-then-kind-eq-NUMBER : goal.returns-then-kind-eq-NUMBER

@@ -1,6 +1,5 @@
 -- Fields of a known kind fit a word.
 use Rattle.reading.proofs.Finishing.{fields_fit, word_is}
-use borrow.Author.Rules.{rules}
 use Rattle.reading.proofs.finish.own_word.Goals as goal
 
 pub node_word-requires : goal.node_word-requires

@@ -1,6 +1,5 @@
 -- The layout's digit decides.
 use Rattle.reading.proofs.Finishing.{when_variable, no_variable}
-use borrow.Author.Rules.{rules}
 use Rattle.reading.proofs.finish.variable_of.Goals as goal
 
 pub returns-then-layout-eq1 : goal.returns-then-layout-eq1

@@ -1,7 +1,6 @@
 -- The first byte of the token is met, and then the word is read.
 use Rattle.reading.proofs.Passing.{token_good}
 use Rattle.reading.proofs.Marking.{fixed_refused, fixed_word}
-use borrow.Author.Rules.{rules}
 use Rattle.reading.proofs.mark.fixed.Goals as goal
 
 pub returns-then-d-ne0 : goal.returns-then-d-ne0

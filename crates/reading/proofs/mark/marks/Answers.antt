@@ -2,7 +2,6 @@
 use mathlib.Core.Path.{refl, sym}
 use lib.ListN.{get_or-eq_default}
 use Rattle.reading.specs.Inner.Parts.{mark_table, marks_of}
-use borrow.Author.Rules.{rules}
 use Rattle.reading.proofs.mark.marks.Goals as goal
 
 pub returns-then-at-lt24 : goal.returns-then-at-lt24

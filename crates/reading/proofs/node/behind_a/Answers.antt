@@ -4,7 +4,6 @@ use Rattle.written.specs.Machine.{done}
 use Rattle.reading.proofs.Tokens.{nothing_read}
 use Rattle.reading.proofs.Marking.{fixed_way}
 use Rattle.reading.proofs.Between.{behind_mark, behind_catch}
-use borrow.Author.Rules.{rules}
 use Rattle.reading.proofs.node.behind_a.Goals as goal
 
 pub returns-then-kind-ne-TRY : goal.returns-then-kind-ne-TRY

@@ -2,7 +2,6 @@
 use mathlib.Core.Path.{◌≡◌}
 use native.Mathlib.Omega.{arith}
 use Rattle.reading.proofs.Between.{of_class}
-use borrow.Author.Rules.{rules}
 use Rattle.reading.proofs.node.lead.Goals as goal
 
 pub returns-then-class-eq-STATEMENT : goal.returns-then-class-eq-STATEMENT

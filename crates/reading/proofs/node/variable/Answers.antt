@@ -1,39 +1,22 @@
 -- The token that comes is a variable, or it is refused at its first byte.
 use native.Mathlib.Omega.{arith}
-use Rattle.reading.specs.Inner.Way.{Good}
-use Rattle.reading.specs.Inner.Between.{Meets}
 use Rattle.reading.proofs.Passing.{token_met, token_good}
 use Rattle.reading.proofs.Between.{no_token, no_variable, a_variable}
-use borrow.Author.Rules.{rules}
-use Rattle.reading.proofs.node.variable.Lts as lts
-use Rattle.reading.proofs.node.variable.Reads as reads
-use Rattle.reading.proofs.node.variable.Tie as tie
 use Rattle.reading.proofs.node.variable.Goals as goal
 
-abbrev After-to_token-d : Type 0
-After-to_token-d = lts.After-to_token tie.the-claims reads.Pre reads.Post
-
-module _ (c : After-to_token-d) where
-  met : Meets c.args.text.now c.args.c c.to_token-d.result
-  met = token_met _ _ _ c.requires c.to_token-d.ensures
-
-  good : Good c.args.text.now c.to_token-d.result
-  good = token_good _ _ _ c.requires c.to_token-d.ensures
-
-
 pub returns-then-d-ne0 : goal.returns-then-d-ne0
-returns-then-d-ne0 c = no_token _ _ _ (met c.before.before.before) (good c.before.before.before) c.if-d-ne0.true
+returns-then-d-ne0 c = no_token _ _ _ (token_met _ _ _ c.requires c.to_token-d.ensures) (token_good _ _ _ c.requires c.to_token-d.ensures) c.if-d-ne0.true
 
 pub returns-then-byte_at-ne118 : goal.returns-then-byte_at-ne118
-returns-then-byte_at-ne118 c = no_variable _ _ _ (met c.before.before.before.before.before) (good c.before.before.before.before.before) _ c.if-d-ne0.false c.byte_at.ensures c.if-byte_at-ne118.true
+returns-then-byte_at-ne118 c = no_variable _ _ _ (token_met _ _ _ c.requires c.to_token-d.ensures) (token_good _ _ _ c.requires c.to_token-d.ensures) _ c.if-d-ne0.false c.byte_at.ensures c.if-byte_at-ne118.true
 
 pub overflow_add-d : goal.overflow_add-d
-overflow_add-d c = omega (arith, (good c.before.before.before.before.before.before).inside)
+overflow_add-d c = omega (arith, (token_good _ _ _ c.requires c.to_token-d.ensures).inside)
 
 pub read_number-requires : goal.read_number-requires
 read_number-requires c =
-    let inside = (met c.before.before.before.before.before.before).faces.before_end c.if-d-ne0.false in
-    (good c.before.before.before.before.before.before, omega (arith, inside), omega arith)
+    let inside = (token_met _ _ _ c.requires c.to_token-d.ensures).faces.before_end c.if-d-ne0.false in
+    (token_good _ _ _ c.requires c.to_token-d.ensures, omega (arith, inside), omega arith)
 
 pub returns : goal.returns
-returns c = a_variable _ _ _ (met c.before.before.before.before.before.before.before) (good c.before.before.before.before.before.before.before) _ _ c.if-d-ne0.false c.byte_at.ensures c.if-byte_at-ne118.false c.read_number.ensures
+returns c = a_variable _ _ _ (token_met _ _ _ c.requires c.to_token-d.ensures) (token_good _ _ _ c.requires c.to_token-d.ensures) _ _ c.if-d-ne0.false c.byte_at.ensures c.if-byte_at-ne118.false c.read_number.ensures

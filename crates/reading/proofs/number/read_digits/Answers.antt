@@ -1,9 +1,9 @@
 -- The loop's invariant: the digits read so far have made the value, and the rest goes on with it.
-use Prim.Native.Nat.{◌-◌}
 use native.Mathlib.Omega.{arith}
 use borrow.Author.Rules.{rules}
-use lib.ListN.{length, get_or}
-use Rattle.reading.proofs.Loops.{DigitsSoFar, digits_start, digits_no_digit, digits_over_most, digits_one_more, digits_end, digit_low, digit_high}
+use Prim.Native.Nat.{◌≤◌}
+use lib.ListN.{get_or}
+use Rattle.reading.proofs.Loops.{digits_start, digits_no_digit, digits_over_most, digits_one_more, digits_end, digit_low, digit_high}
 use Rattle.reading.proofs.number.read_digits.Goals as goal
 
 pub loop-at-init : goal.loop-at-init
@@ -23,12 +23,12 @@ overflow_sub-next c = search (digit_low, rules)
 
 pub overflow_cast-next : goal.overflow_cast-next
 overflow_cast-next c =
-    let h = digit_high (get_or c.args.text.now c.loop-at.at 0) _ c.is_digit.ensures c.if-not-is_digit.false-raw in
+    let h : get_or c.args.text.now c.loop-at.at 0 ≤ 57 = search (digit_high, rules) in
     omega (arith, h)
 
 pub overflow_add-next : goal.overflow_add-next
 overflow_add-next c =
-    let h = digit_high (get_or c.args.text.now c.loop-at.at 0) _ c.is_digit.ensures c.if-not-is_digit.false-raw in
+    let h : get_or c.args.text.now c.loop-at.at 0 ≤ 57 = search (digit_high, rules) in
     omega (arith, h)
 
 pub returns-then-value-most : goal.returns-then-value-most

@@ -1,9 +1,7 @@
 -- The loop's invariant: the digits read so far have made the value, and the rest goes on with it.
 use Prim.Native.Nat.{◌-◌}
-use native.Mathlib.Omega.{arith}
-use borrow.Author.Rules.{rules}
-use lib.ListN.{length, get_or}
-use Rattle.reading.proofs.Loops.{DigitsSoFar, digits_start, digits_no_digit, digits_over_most, digits_one_more, digits_end, digit_low, digit_high}
+use lib.ListN.{length}
+use Rattle.reading.proofs.Loops.{DigitsSoFar}
 use Rattle.reading.proofs.number.read_digits.Given as goal
 
 abbrev pub invariant-loop-at : goal.invariant-loop-at

@@ -1,9 +1,7 @@
 -- The loop's invariant: the spaces so far and those still to come.
 use Prim.Native.Nat.{◌-◌}
-use native.Mathlib.Omega.{arith}
-use borrow.Author.Rules.{rules}
 use lib.ListN.{length}
-use Rattle.reading.proofs.Loops.{SpacesSoFar, spaces_start, spaces_stop, spaces_more, spaces_end}
+use Rattle.reading.proofs.Loops.{SpacesSoFar}
 use Rattle.reading.proofs.spaces.next_place.Given as goal
 
 abbrev pub invariant-loop-at : goal.invariant-loop-at

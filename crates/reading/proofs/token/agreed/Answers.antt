@@ -1,9 +1,7 @@
 -- The loop's invariant: what agrees so far, and what is left to compare.
-use Prim.Native.Nat.{◌-◌}
 use native.Mathlib.Omega.{arith}
 use borrow.Author.Rules.{rules}
-use lib.ListN.{length}
-use Rattle.reading.proofs.Loops.{AgreedSoFar, agreed_start, agreed_short, agreed_stop, agreed_more, agreed_end}
+use Rattle.reading.proofs.Loops.{agreed_start, agreed_short, agreed_stop, agreed_more, agreed_end}
 use Rattle.reading.proofs.token.agreed.Goals as goal
 
 pub loop-i-init : goal.loop-i-init

@@ -1,6 +1,5 @@
 -- Refused before, at the end, or at more text: one law each.
 use Rattle.reading.proofs.Ending.{end_refused, end_here, end_more}
-use borrow.Author.Rules.{rules}
 use Rattle.reading.proofs.whole.end.Goals as goal
 
 pub returns-then-d-ne0 : goal.returns-then-d-ne0

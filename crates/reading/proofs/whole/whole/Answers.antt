@@ -1,7 +1,6 @@
 -- The ways of `options`, F, the statement and the end, one behind the other.
 use native.Mathlib.Omega.{arith}
 use Rattle.reading.proofs.Wholly.{start_good, options_good, part_ready, part_good, whole_read}
-use borrow.Author.Rules.{rules}
 use Rattle.reading.proofs.whole.whole.Goals as goal
 
 pub fixed-c-requires : goal.fixed-c-requires

@@ -1,9 +1,8 @@
 -- The first i words are stored: one word more is stored right behind them.
-use Prim.Native.Nat.{◌-◌}
 use native.Mathlib.Omega.{arith}
 use borrow.Author.Rules.{rules}
 use Rattle.image.specs.Term.{all_bytes}
-use Rattle.reading.proofs.Imaging.{PutSoFar, wide_nodes, put_start, put_more, put_end}
+use Rattle.reading.proofs.Imaging.{wide_nodes, put_start, put_more, put_end}
 use Rattle.reading.proofs.write.put_nodes.Goals as goal
 
 pub loop-i-init : goal.loop-i-init

@@ -1,16 +1,12 @@
 -- The first i words are stored: one word more is stored right behind them.
-use Prim.Native.Nat.{◌-◌}
 use native.Mathlib.Omega.{arith}
 use borrow.Author.Rules.{rules}
 use Rattle.written.specs.Image.{record_bytes}
-use Rattle.reading.proofs.Imaging.{PutSoFar, wide_records, put_start, put_more, put_end}
+use Rattle.reading.proofs.Imaging.{wide_records, put_start, put_more, put_end}
 use Rattle.reading.proofs.write.put_records.Goals as goal
 
 pub loop-i-init : goal.loop-i-init
 loop-i-init c = put_start 4 record_bytes wide_records _ _ _ _
-
-pub overflow_cast-records : goal.overflow_cast-records
-overflow_cast-records c = record { fits = omega (arith, (c.shared_slice_known-in-loop-i-1.given c.loop-i.i).fits) }
 
 pub loop-i-smaller : goal.loop-i-smaller
 loop-i-smaller c = omega arith

@@ -1,9 +1,7 @@
 -- The first i words are stored: one word more is stored right behind them.
 use Prim.Native.Nat.{◌-◌}
-use native.Mathlib.Omega.{arith}
-use borrow.Author.Rules.{rules}
 use Rattle.written.specs.Image.{record_bytes}
-use Rattle.reading.proofs.Imaging.{PutSoFar, wide_records, put_start, put_more, put_end}
+use Rattle.reading.proofs.Imaging.{PutSoFar}
 use Rattle.reading.proofs.write.put_records.Given as goal
 
 abbrev pub invariant-loop-i : goal.invariant-loop-i
