@@ -2,6 +2,7 @@
 use mathlib.Core.Path.{◌≡◌, refl, ◌∙◌}
 use Prim.Native.Nat.{ℕ}
 use native.Mathlib.Omega.{arith}
+use borrow.Author.Rules.{rules}
 use Rattle.image.specs.Layout.{kinds, layout, names_node}
 use Rattle.plain.proofs.Evaluation.{At, through, room, call_a, call_b, call_c, call_side, call_chosen, variable_there, number_is, variable_is, sum_is, pick_is, choiceᵃ_is, falseᵇ_is, trueᵇ_is, notᵇ_is, andᵇ_is, less_is, choiceᵇ_is, arithmetic_kind, boolean_kind}
 use mathlib.Core.List.{List}
@@ -22,7 +23,7 @@ pub arithmetic-returns-in-0 : goal.arithmetic-returns-in-0
 arithmetic-returns-in-0 t c = through c.signed.type_inv (c.signed.ensures ∙ number_is (here c.decreases c.requires c.node_at-node.ensures) c.in-0.is)
 
 pub arithmetic-returns-in-1 : goal.arithmetic-returns-in-1
-arithmetic-returns-in-1 t c = through c.result-1.given (variable_is (here c.decreases c.requires c.node_at-node.ensures) c.in-1.is)
+arithmetic-returns-in-1 t c = through (search rules) (variable_is (here c.decreases c.requires c.node_at-node.ensures) c.in-1.is)
 
 pub arithmetic-returns-in-2 : goal.arithmetic-returns-in-2
 arithmetic-returns-in-2 t c =
