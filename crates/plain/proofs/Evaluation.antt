@@ -50,7 +50,7 @@ of_side f false x y = refl
 
 -- a number of 32 bits goes through the machine unchanged
 pub through : {x z : ℤ} → mag x < 2147483648 → x ≡ z → to_z w32 (of_z w32 x) ≡ z
-through h e = to_z-of_z (record { sfits = h }) ∙ e
+through h e = to_z-of_z {w = w32} (record { sfits = h }) ∙ e
 
 -- the node is there to be read
 pub room : {l : Bytes} {C : ℕ} {S : List ℕ} {s n κ : ℕ} {ns : List ℤ} → Evaluating l C S s n κ ns

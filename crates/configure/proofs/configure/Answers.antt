@@ -1,14 +1,16 @@
 -- `configure` meets its contract: the check's refusal, then row 11, then what is left to row 14.
 use mathlib.Core.Path.{◌≡◌, sym, ◌∙◌, ap}
-use mathlib.Core.Bool.{true, false}
+use mathlib.Core.Bool.{Bool, true, false}
 use mathlib.Core.List.{List}
 use Prim.Native.Nat.{ℕ, ◌^◌}
 use native.Mathlib.Omega.{arith}
 use lib.Dec.{ltb}
 use lib.ListN.{length}
-use borrow.Author.Rules.{rules}
-use borrow.Author.Tests.{ltb-true, not_true, not-false}
+use borrow.Author.Tests.{ltb-true}
 use Rattle.image.specs.declared.accept.Shape.{Shape}
+use Rattle.image.specs.declared.accept.Checked.{Checked}
+use Rattle.image.specs.declared.accept.Checked.TheVariants.{Good}
+use Rattle.sets.specs.Member.{bit}
 use Rattle.image.specs.declared.refusals.Refusal.{Refusal}
 use Rattle.image.specs.declared.refusals.Refusal.TheVariants.{SettingBeyond}
 use Rattle.image.specs.Records.{header}
@@ -23,22 +25,7 @@ use Rattle.image.proofs.Theorem.Then.{judge_then, judge_stops, written_then, wri
 use Rattle.configure.specs.declared.Configured.{Configured}
 use Rattle.configure.specs.declared.Configured.TheVariants.{Refused}
 use Rattle.configure.specs.Configured.{space_rows, configure_rows, Configures}
-use Rattle.configure.proofs.configure.Lts as lts
-use Rattle.configure.proofs.configure.Reads as reads
-use Rattle.configure.proofs.configure.Tie as tie
 use Rattle.configure.proofs.configure.Goals as goal
-
-abbrev In-Good-2 : Type 0
-In-Good-2 = lts.After-shape tie.the-claims reads.Pre reads.Post
-
-abbrev Start : Type 0
-Start = lts.Start tie.the-claims reads.Pre reads.Post
-
-abbrev After-has : Type 0
-After-has = lts.After-has tie.the-claims reads.Pre reads.Post
-
-abbrev Else-not-has : Type 0
-Else-not-has = lts.Else1 tie.the-claims reads.Pre reads.Post
 
 -- ---- the three answers
 
@@ -66,22 +53,14 @@ module _ (l : List ℕ) (s : ℕ) (out : List ℕ) where
     out_is = h.out_is ∙ sym (written_then s (check_rows l) _ _ _ (accepts l s a) ∙ rw e);
   }
 
-
 -- ---- where the image is good
 
-module _ (c : In-Good-2) where
-  abbrev start : Start
-  start = c.before.before.before.before.before
+-- the check's answer
+told : (l : List ℕ) {r : Checked} {shape : Shape} → r ≡ Good shape → answer_of r ≡ judge (check_rows l) (shape_of l)
+    → answer shape ≡ judge (check_rows l) (shape_of l)
+told l is_good ensured = ap answer_of (sym is_good) ∙ ensured
 
-  abbrev l : List ℕ
-  l = start.args.image.now
-
-  abbrev shape : Shape
-  shape = c.in-Good.shape
-
-  told : answer shape ≡ judge (check_rows l) (shape_of l)
-  told = ap answer_of (sym c.in-Good.is) ∙ c.check.ensures
-
+module _ (l : List ℕ) {shape : Shape} (told : answer shape ≡ judge (check_rows l) (shape_of l)) where
   acc : Accepted l
   acc = good_accepted l _ told
 
@@ -100,38 +79,41 @@ module _ (c : In-Good-2) where
   unfolding shape_of
   nodes_are = ap (λ (h : Shape). h.nodes) shape_is
 
+  -- whether the setting is below N, as it is tested
+  tested : (setting every : ℕ) {has : Bool} → has ≡ bit every setting → ((k : ℕ) → bit every k ≡ ltb k (2 ^ shape.options))
+      → has ≡ ltb setting (settings l)
+  unfolding settings
+  tested setting every is_in is_every = is_in ∙ is_every setting ∙ ap (λ f. ltb setting (2 ^ f)) options_are
 
 pub all_settings-requires : goal.all_settings-requires
-all_settings-requires c = omega (arith, options_are c.before.before, (acc c.before.before).few_options)
-
--- whether the setting is below N, as it was tested
-tested : (c : After-has) → c.has.result ≡ ltb (start c.before.before.before).args.setting (settings (l c.before.before.before))
-unfolding settings
-tested c =
-    let setting : ℕ = (start c.before.before.before).args.setting in
-    c.has.ensures ∙ c.all_settings.ensures setting ∙ ap (λ f. ltb setting (2 ^ f)) (options_are c.before.before.before)
+all_settings-requires c =
+    let l = c.args.image.now in
+    let good = told l c.in-Good.is c.check.ensures in
+    omega (arith, options_are l good, (acc l good).few_options)
 
 pub returns-then-not-has : goal.returns-then-not-has
 returns-then-not-has c =
-    beyond (l c.before.before.before.before.before) _ _ (acc c.before.before.before.before.before) (sym (tested c.before.before) ∙ not_true _ c.if-not-has.true-raw)
+    let l = c.args.image.now in
+    let good = told l c.in-Good.is c.check.ensures in
+    beyond l _ _ (acc l good) (sym (tested l good _ _ c.has.ensures c.all_settings.ensures) ∙ c.if-not-has.true)
 
 pub condition_sets-sets-requires : goal.condition_sets-sets-requires
 condition_sets-sets-requires c =
-    (acc c.before.before.before.before.before, shape_is c.before.before.before.before.before)
-
-is-setting : (c : Else-not-has) → ltb (start c.before.before.before.before).args.setting (settings (l c.before.before.before.before)) ≡ true
-is-setting c = sym (tested c.before) ∙ not-false _ c.if-not-has.false-raw
+    let l = c.args.image.now in
+    let good = told l c.in-Good.is c.check.ensures in
+    (acc l good, shape_is l good)
 
 pub configure_ready-requires : goal.configure_ready-requires
 configure_ready-requires c =
-    let good : tie.After-shape = c.before.before.before.before.before.before.before.before in (
+    let l = c.args.image.now in
+    let good = told l c.in-Good.is c.check.ensures in (
       record {
-        accepted = acc good;
-        conditions_are = conditions_are good;
+        accepted = acc l good;
+        conditions_are = conditions_are l good;
         sets_right = c.condition_sets-sets.ensures.sets_are;
-        setting_below = ltb-true _ _ (is-setting c.before.before.before.before);
+        setting_below = ltb-true _ _ (sym (tested l good _ _ c.has.ensures c.all_settings.ensures) ∙ c.if-not-has.false);
       },
-      nodes_are good,
+      nodes_are l good,
     )
 
 pub returns-in-Refused : goal.returns-in-Refused
@@ -140,4 +122,6 @@ returns-in-Refused c =
 
 pub returns-else-not-has : goal.returns-else-not-has
 returns-else-not-has c =
-    goes_on (l c.before.before.before.before.before.before.before.before.before.before.before) _ _ (acc c.before.before.before.before.before.before.before.before.before.before.before) (is-setting c.before.before.before.before.before.before.before) c.configure_ready.ensures
+    let l = c.args.image.now in
+    let good = told l c.in-Good.is c.check.ensures in
+    goes_on l _ _ (acc l good) (sym (tested l good _ _ c.has.ensures c.all_settings.ensures) ∙ c.if-not-has.false) c.configure_ready.ensures

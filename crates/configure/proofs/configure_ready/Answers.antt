@@ -5,7 +5,6 @@ use Prim.Native.Nat.{ℕ, ◌+◌, ◌-◌, ◌*◌, ◌≤◌, ◌<◌}
 use native.Mathlib.Omega.{arith}
 use lib.ListN.{length}
 use lib.Seq.{sets, length-sets}
-use borrow.Author.Rules.{rules}
 use Rattle.image.specs.Records.{header}
 use Rattle.image.specs.Term.{size, head_word, bytes_of}
 use Rattle.image.specs.Accepted.{Accepted}
@@ -16,94 +15,69 @@ use Rattle.configure.specs.Inner.Writing.{Wrote}
 use Rattle.configure.specs.Configured.{space_rows, Configures}
 use Rattle.configure.specs.Theorem.Small.{size_small}
 use Rattle.configure.proofs.Written as written
-use Rattle.configure.proofs.configure_ready.Lts as lts
-use Rattle.configure.proofs.configure_ready.Reads as reads
-use Rattle.configure.proofs.configure_ready.Tie as tie
+use Rattle.image.specs.Inner.Ready.{Ready}
 use Rattle.configure.proofs.configure_ready.Goals as goal
-
-abbrev After-configured_size-size : Type 0
-After-configured_size-size = lts.After-configured_size tie.the-claims reads.Pre reads.Post
-
-abbrev Start : Type 0
-Start = lts.Start tie.the-claims reads.Pre reads.Post
 
 -- ---- what is known once the size was counted
 
-module _ (c : After-configured_size-size) where
-  abbrev start : Start
-  start = c.before.before.before.before
-
-  abbrev l : List ℕ
-  l = start.args.image.now
-
-  abbrev s : ℕ
-  s = start.args.s
-
+module _ (l : List ℕ) (s : ℕ) {conditions nodes : ℕ} {condition_sets : List ℕ} (pre : Ready l conditions condition_sets s × (nodes ≡ (header l).nodes)) where
   acc : Accepted l
-  acc = start.requires.0.accepted
+  acc = pre.0.accepted
 
-  nodes_are : start.args.shape.nodes ≡ (header l).nodes
-  nodes_are = start.requires.1
+  nodes_are : nodes ≡ (header l).nodes
+  nodes_are = pre.1
 
-  some_node : 1 ≤ start.args.shape.nodes
+  some_node : 1 ≤ nodes
   some_node = omega (arith, nodes_are, acc.some_node)
 
-  abbrev last : ℕ
-  last = start.args.shape.nodes - 1
-
-  size_is : c.configured_size-size.result ≡ size (term_at l s last)
-  size_is = c.configured_size-size.ensures
-
-  few : size (term_at l s last) ≤ 1024
-  few = omega (arith, nodes_are, size_small l acc s last (omega (arith, nodes_are, some_node)), acc.few_nodes)
+  few : size (term_at l s (nodes - 1)) ≤ 1024
+  few = omega (arith, nodes_are, size_small l acc s (nodes - 1) (omega (arith, nodes_are, some_node)), acc.few_nodes)
 
   -- the tests and stores of lists, as `Written` has them
-  abbrev out : List ℕ
-  out = start.args.out-1.now
+  module _ (out : List ℕ) {counted : ℕ} (size_is : counted ≡ size (term_at l s (nodes - 1))) where
+    short : length out < 8 + 8 * counted → Configures (space_rows l s (length out)) l s out out (Refused SpaceShort)
+    short h = written.short l acc s out nodes nodes_are (omega (arith, size_is))
 
-  short : length out < 8 + 8 * c.configured_size-size.result → Configures (space_rows l s (length out)) l s out out (Refused SpaceShort)
-  short h = written.short l acc s out start.args.shape.nodes nodes_are (omega (arith, size_is))
-
-  all_written : {word end : ℕ} {out₁ out₂ : List ℕ} → 8 + 8 * c.configured_size-size.result ≤ length out → word ≡ head_word 0 0 c.configured_size-size.result
-      → out₁ ≡ sets out 0 (bytes_of 8 word) → Wrote l s last 0 out₁ out₂ end
-      → Configures (space_rows l s (length out)) l s out out₂ (Length (8 + 8 * end))
-  all_written h word_is first then =
-      written.carried l acc s out start.args.shape.nodes nodes_are (omega (arith, size_is))
-      (first ∙ ap (λ w. sets out 0 (bytes_of 8 w)) (word_is ∙ ap (head_word 0 0) size_is)) then
-
+    all_written : {word end : ℕ} {out₁ out₂ : List ℕ} → 8 + 8 * counted ≤ length out → word ≡ head_word 0 0 counted
+        → out₁ ≡ sets out 0 (bytes_of 8 word) → Wrote l s (nodes - 1) 0 out₁ out₂ end
+        → Configures (space_rows l s (length out)) l s out out₂ (Length (8 + 8 * end))
+    all_written h word_is first then =
+        written.carried l acc s out nodes nodes_are (omega (arith, size_is))
+        (first ∙ ap (λ w. sets out 0 (bytes_of 8 w)) (word_is ∙ ap (head_word 0 0) size_is)) then
 
 pub overflow_mul-size : goal.overflow_mul-size
-overflow_mul-size c = omega (arith, size_is c.before, few c.before)
+overflow_mul-size c = omega (arith, c.configured_size-size.ensures, few c.args.image.now c.args.s c.requires)
 
 pub overflow_add-size : goal.overflow_add-size
-overflow_add-size c = omega (arith, size_is c.before, few c.before)
+overflow_add-size c = omega (arith, c.configured_size-size.ensures, few c.args.image.now c.args.s c.requires)
 
 pub returns-then-out-size : goal.returns-then-out-size
-returns-then-out-size c = short c.before.before c.if-out-size.true
+returns-then-out-size c = short c.args.image.now c.args.s c.requires _ c.configured_size-size.ensures c.if-out-size.true
 
 pub head_word-requires : goal.head_word-requires
 head_word-requires c = record {
   options_small = omega arith;
   conditions_small = omega arith;
-  nodes_small = omega (arith, size_is c.before.before.before, few c.before.before.before);
-
+  nodes_small = omega (arith, c.configured_size-size.ensures, few c.args.image.now c.args.s c.requires);
 }
 
 pub write-written-requires : goal.write-written-requires
 write-written-requires c =
+    let l = c.args.image.now in
+    let s = c.args.s in
     record {
-      ready = (start c.before.before.before.before.before.before.before.before).requires.0;
-      node_below = omega (arith, nodes_are c.before.before.before.before.before.before.before.before, some_node c.before.before.before.before.before.before.before.before);
-      few = omega (arith, few c.before.before.before.before.before.before.before.before);
+      ready = c.requires.0;
+      node_below = omega (arith, c.requires.1, some_node l s c.requires);
+      few = omega (arith, few l s c.requires);
       fits = omega (
         arith,
         c.if-out-size.false,
-        size_is c.before.before.before.before.before.before.before.before,
+        c.configured_size-size.ensures,
         ap length c.put.ensures,
-        length-sets (out c.before.before.before.before.before.before.before.before) 0 (bytes_of 8 c.head_word.result),
+        length-sets c.args.out.now 0 (bytes_of 8 c.head_word.result),
       );
     }
 
 pub returns : goal.returns
 returns c =
-    all_written c.before.before.before.before.before.before.before.before.before.before.before c.if-out-size.false c.head_word.ensures c.put.ensures c.write-written.ensures
+    all_written c.args.image.now c.args.s c.requires _ c.configured_size-size.ensures c.if-out-size.false c.head_word.ensures c.put.ensures c.write-written.ensures

@@ -8,7 +8,7 @@ use Rattle.imp.specs.Condition.{holds}
 use Rattle.imp.specs.Configure.{configureᵃ, configureᵇ, configure}
 use Rattle.imp.proofs.Theorem.Wrap.{low_signed}
 use Rattle.image.specs.declared.records.Node.{Node}
-use Rattle.image.specs.Bytes.{Bytes, number_at}
+use Rattle.image.specs.Bytes.{Bytes}
 use Rattle.image.specs.Records.{header, node}
 use Rattle.image.specs.Layout.{kinds, layout, class_digit, variable_digit, a_digit, b_digit, c_digit, names_node, field_fits, is_choice}
 use Rattle.image.specs.Rows.{node_fits, class}

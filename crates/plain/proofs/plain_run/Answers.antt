@@ -4,8 +4,9 @@ use mathlib.Core.List.{List}
 use Prim.Native.Nat.{ℕ, ◌<◌}
 use native.Mathlib.Omega.{arith}
 use lib.Pow.{pow_pos}
-use borrow.Author.Rules.{rules}
 use Rattle.image.specs.declared.accept.Shape.{Shape}
+use Rattle.image.specs.declared.accept.Checked.{Checked}
+use Rattle.image.specs.declared.accept.Checked.TheVariants.{Good}
 use Rattle.image.specs.Layout.{is_choice}
 use Rattle.image.specs.Records.{header, node}
 use Rattle.image.specs.Rows.{answer, judge, lowest, check_rows}
@@ -16,34 +17,10 @@ use Rattle.image.specs.Accepted.{Accepted}
 use Rattle.image.proofs.Theorem.Checked.{good_accepted, good_shape}
 use Rattle.plain.specs.PlainRun.{choice_row, plain_rows}
 use Rattle.plain.proofs.Plainly.{refused_first, choice_held, no_choice}
-use Rattle.plain.proofs.plain_run.Lts as lts
-use Rattle.plain.proofs.plain_run.Reads as reads
-use Rattle.plain.proofs.plain_run.Tie as tie
 use Rattle.plain.proofs.plain_run.Goals as goal
 
-abbrev In-Good-2 : Type 0
-In-Good-2 = lts.After-shape tie.the-claims reads.Pre reads.Post
-
-abbrev Start : Type 0
-Start = lts.Start tie.the-claims reads.Pre reads.Post
-
-abbrev After-lowest_choice-choice : Type 0
-After-lowest_choice-choice = lts.After-lowest_choice tie.the-claims reads.Pre reads.Post
-
 -- where the image is good
-module _ (c : In-Good-2) where
-  abbrev start : Start
-  start = c.before.before.before.before
-
-  abbrev l : List ℕ
-  l = start.args.image.now
-
-  abbrev shape : Shape
-  shape = c.in-Good.shape
-
-  told : answer shape ≡ judge (check_rows l) (shape_of l)
-  told = ap answer_of (sym c.in-Good.is) ∙ c.check.ensures
-
+module _ (l : List ℕ) {shape : Shape} (told : answer shape ≡ judge (check_rows l) (shape_of l)) where
   acc : Accepted l
   acc = good_accepted l _ told
 
@@ -61,26 +38,33 @@ module _ (c : In-Good-2) where
   whole : Whole l shape.conditions shape.nodes
   whole = record { conditions_are = conditions_are; nodes_are = nodes_are; length_is = omega (arith, acc.length_is, conditions_are, nodes_are) }
 
-
--- what was looked for is the lowest choice of the image
-is-lowest : (c : After-lowest_choice-choice) → c.lowest_choice-choice.result ≡ lowest (header (l c.before.before)).nodes (λ n. is_choice (node (l c.before.before) n).kind)
-is-lowest c = c.lowest_choice-choice.ensures ∙ ap (λ p. lowest p (λ n. is_choice (node (l c.before.before) n).kind)) (nodes_are c.before.before)
+  -- what was looked for is the lowest choice of the image
+  is_lowest : {choice : ℕ} → choice ≡ lowest shape.nodes (λ n. is_choice (node l n).kind)
+      → choice ≡ lowest (header l).nodes (λ n. is_choice (node l n).kind)
+  is_lowest found = found ∙ ap (λ p. lowest p (λ n. is_choice (node l n).kind)) nodes_are
 
 -- there is always setting 0
 setting_0 : (l : List ℕ) → 0 < settings l
 unfolding settings
 setting_0 l = pow_pos (header l).options
 
+-- the check's answer, where the image is good
+told : (l : List ℕ) {r : Checked} {shape : Shape} → r ≡ Good shape → answer_of r ≡ judge (check_rows l) (shape_of l)
+    → answer shape ≡ judge (check_rows l) (shape_of l)
+told l is_good ensured = ap answer_of (sym is_good) ∙ ensured
+
 pub lowest_choice-choice-requires : goal.lowest_choice-choice-requires
-lowest_choice-choice-requires c = whole c.before.before
+lowest_choice-choice-requires c = whole _ (told c.args.image.now c.in-Good.is c.check.ensures)
 
 pub returns-then-choice-shape : goal.returns-then-choice-shape
 returns-then-choice-shape c =
-    choice_held (l c.before.before.before.before.before) _ _ (acc c.before.before.before.before.before) (is-lowest c.before.before.before) (omega (arith, c.if-choice-shape.true, nodes_are c.before.before.before.before.before))
+    let good = told c.args.image.now c.in-Good.is c.check.ensures in
+    choice_held c.args.image.now _ _ (acc c.args.image.now good) (is_lowest c.args.image.now good c.lowest_choice-choice.ensures) (omega (arith, c.if-choice-shape.true, nodes_are c.args.image.now good))
 
 pub run_accepted-requires : goal.run_accepted-requires
 run_accepted-requires c =
-    (acc c.before.before.before.before.before.before, shape_is c.before.before.before.before.before.before, setting_0 (l c.before.before.before.before.before.before))
+    let good = told c.args.image.now c.in-Good.is c.check.ensures in
+    (acc c.args.image.now good, shape_is c.args.image.now good, setting_0 c.args.image.now)
 
 pub returns-in-Refused : goal.returns-in-Refused
 unfolding plain_rows
@@ -89,4 +73,5 @@ returns-in-Refused c =
 
 pub returns-else-choice-shape : goal.returns-else-choice-shape
 returns-else-choice-shape c =
-    no_choice (l c.before.before.before.before.before.before.before.before) _ _ (acc c.before.before.before.before.before.before.before.before) (is-lowest c.before.before.before.before.before.before) (omega (arith, c.if-choice-shape.false, nodes_are c.before.before.before.before.before.before.before.before)) c.run_accepted.ensures
+    let good = told c.args.image.now c.in-Good.is c.check.ensures in
+    no_choice c.args.image.now _ _ (acc c.args.image.now good) (is_lowest c.args.image.now good c.lowest_choice-choice.ensures) (omega (arith, c.if-choice-shape.false, nodes_are c.args.image.now good)) c.run_accepted.ensures

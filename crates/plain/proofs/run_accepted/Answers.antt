@@ -3,39 +3,30 @@ use mathlib.Core.Path.{◌≡◌, refl, ap}
 use mathlib.Core.List.{List}
 use Prim.Native.Nat.{ℕ, ◌-◌, ◌<◌}
 use native.Mathlib.Omega.{arith}
-use borrow.Author.Rules.{rules}
 use lib.IntN.{pos}
 use Rattle.imp.specs.State.{outcome_number, code}
 use Rattle.image.specs.declared.accept.Shape.{Shape}
 use Rattle.image.specs.Records.{header}
 use Rattle.image.specs.Check.{shape_of}
+<<<<<<< HEAD
 use Rattle.image.specs.Accepted.{Accepted}
 use Rattle.image.proofs.Theorem.Held.{root_class}
+=======
+use Rattle.image.proofs.Theorem.Held.{root_class}
+>>>>>>> a942908fb6d39df8958ec61d5d01507098099eeb
 use Rattle.plain.specs.Inner.Progress.{outcome_from, Proper}
 use Rattle.plain.proofs.Plainly as plainly
-use Rattle.plain.proofs.run_accepted.Lts as lts
-use Rattle.plain.proofs.run_accepted.Reads as reads
-use Rattle.plain.proofs.run_accepted.Tie as tie
 use Rattle.plain.proofs.run_accepted.Goals as goal
 
-abbrev Start : Type 0
-Start = lts.Start tie.the-claims reads.Pre reads.Post
-
-module _ (c : Start) where
-  abbrev l : List ℕ
-  l = c.args.image.now
-
-  abbrev acc : Accepted l
-  acc = c.requires.0
-
-  conditions_are : c.args.shape.conditions ≡ (header l).conditions
+-- what an accepted image's shape tells
+module _ (l : List ℕ) {shape : Shape} (is_shape : shape ≡ shape_of l) where
+  conditions_are : shape.conditions ≡ (header l).conditions
   unfolding shape_of
-  conditions_are = ap (λ (h : Shape). h.conditions) c.requires.1
+  conditions_are = ap (λ (h : Shape). h.conditions) is_shape
 
-  nodes_are : c.args.shape.nodes ≡ (header l).nodes
+  nodes_are : shape.nodes ≡ (header l).nodes
   unfolding shape_of
-  nodes_are = ap (λ (h : Shape). h.nodes) c.requires.1
-
+  nodes_are = ap (λ (h : Shape). h.nodes) is_shape
 
 pub returns-then-budget-gt-LARGEST_BUDGET : goal.returns-then-budget-gt-LARGEST_BUDGET
 returns-then-budget-gt-LARGEST_BUDGET c = plainly.over_budget _ _ _ _ c.if-budget-gt-LARGEST_BUDGET.true
@@ -45,7 +36,7 @@ returns-then-numbers-ne16 c = plainly.wrong_length _ _ _ _ c.if-budget-gt-LARGES
 
 pub overflow_sub-shape : goal.overflow_sub-shape
 overflow_sub-shape c =
-    omega (arith, nodes_are c.before.before.before.before.before.before.before, (acc c.before.before.before.before.before.before.before).some_node)
+    omega (arith, nodes_are c.args.image.now c.requires.1, c.requires.0.some_node)
 
 fresh_proper : Proper 1 (pos 0)
 unfolding outcome_from outcome_number code
@@ -54,18 +45,18 @@ fresh_proper = record { outcome_is = refl; code_is = refl }
 pub run-requires : goal.run-requires
 run-requires c =
     let last : ℕ = c.args.shape.nodes - 1 in
-    let below : last < (header (l c.before.before.before.before.before.before.before.before)).nodes = omega (arith, nodes_are c.before.before.before.before.before.before.before.before, (acc c.before.before.before.before.before.before.before.before).some_node) in
+    let below : last < (header c.args.image.now).nodes = omega (arith, nodes_are c.args.image.now c.requires.1, c.requires.0.some_node) in
     record {
       evaluating = record {
         ready = record {
-          accepted = acc c.before.before.before.before.before.before.before.before;
-          conditions_are = conditions_are c.before.before.before.before.before.before.before.before;
+          accepted = c.requires.0;
+          conditions_are = conditions_are c.args.image.now c.requires.1;
           sets_right = c.condition_sets-sets.ensures.sets_are;
           setting_below = c.requires.2;
         };
         node_below = below;
-        is_class = root_class (l c.before.before.before.before.before.before.before.before) (header (l c.before.before.before.before.before.before.before.before)).conditions last ((acc c.before.before.before.before.before.before.before.before).nodes_fit last below) ((acc c.before.before.before.before.before.before.before.before).nodes_classed last below)
-            (omega (arith, nodes_are c.before.before.before.before.before.before.before.before, (acc c.before.before.before.before.before.before.before.before).some_node));
+        is_class = root_class c.args.image.now (header c.args.image.now).conditions last (c.requires.0.nodes_fit last below) (c.requires.0.nodes_classed last below)
+            (omega (arith, nodes_are c.args.image.now c.requires.1, c.requires.0.some_node));
         sixteen = c.if-numbers-ne16.false;
       };
       proper = fresh_proper;
@@ -73,5 +64,5 @@ run-requires c =
 
 pub returns : goal.returns
 returns c =
-    plainly.ended _ (l c.before.before.before.before.before.before.before.before.before.before) _ _ c.if-budget-gt-LARGEST_BUDGET.false c.if-numbers-ne16.false
-    (nodes_are c.before.before.before.before.before.before.before.before.before.before) c.run.ensures
+    plainly.ended _ c.args.image.now _ _ c.if-budget-gt-LARGEST_BUDGET.false c.if-numbers-ne16.false
+    (nodes_are c.args.image.now c.requires.1) c.run.ensures

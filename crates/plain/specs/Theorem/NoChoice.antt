@@ -5,7 +5,7 @@ use Rattle.std.proofs.Common.{sym, ◌∙◌, true≢false, arith}
 use Rattle.std.proofs.Math.Bool.{true, false}
 use Prim.Native.Nat.{ℕ, zero, suc, ◌-◌, ◌≤◌, ◌<◌}
 use Rattle.std.proofs.Math.Dec.{eqb}
-use borrow.Author.Tests.{eqb-true, not_true, le-ltb}
+use borrow.Author.Tests.{eqb-true, not-true, le-ltb}
 use Rattle.imp.specs.State.{branch}
 use Rattle.imp.specs.Condition.{Condition}
 use Rattle.imp.specs.Routine.{Arithmetic, sum, pick, Boolean, notᵇ, andᵇ, less, Statement, skip, assign, sequence, if, while, throw, try}
@@ -109,7 +109,7 @@ module _ (s : ℕ) where
       where
         go : (u : Bool) → eqb (node l n).kind 0 ≡ u → eqb (layout (node l n).kind) 0 ≡ false
         go true e = ap (λ k. eqb (layout k) 0) (eqb-true (node l n).kind 0 e)
-        go false e = not_true _ (fitted (header l).conditions n (node l n) (acc.nodes_fit n h) e).known
+        go false e = not-true _ (fitted (header l).conditions n (node l n) (acc.nodes_fit n h) e).known
 
     node_own : (n : ℕ) → n < (header l).nodes → ((k : ℕ) → Own (read_below l n k))
         → Own (reading (kind_of (node l n).kind) (condition l) (read_below l n) (node l n))

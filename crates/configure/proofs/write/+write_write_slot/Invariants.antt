@@ -1,19 +1,8 @@
 -- `write` and `write_slot` meet their contracts together. The measure of node n is 2n + 2, and of a field that names node m it is 2m + 3: a node's fields
 -- name lower nodes, so each call's is less. What is written follows from the laws of Nodes and Branches.
-use mathlib.Core.Path.{◌≡◌, refl, sym, subst, ◌∙◌}
-use mathlib.Core.Bool.{true, cond}
-use Prim.Native.Nat.{ℕ, ◌+◌, ◌*◌, ◌≤◌, ◌<◌}
-use mathlib.Core.List.{List}
-use native.Mathlib.Omega.{arith}
-use lib.ListN.{length}
-use borrow.Author.Rules.{rules}
-use Rattle.image.specs.declared.records.Node.{Node}
+use mathlib.Core.Bool.{cond}
+use Prim.Native.Nat.{◌+◌, ◌*◌}
 use Rattle.image.specs.Layout.{names_node}
-use Rattle.image.specs.Term.{size, branch_size}
-use Rattle.configure.specs.Inner.Term.{term_at}
-use Rattle.configure.specs.Inner.Writing.{Writing, hung, SlotWriting}
-use Rattle.configure.proofs.Branches.{child_writing, child_wrote, none_wrote}
-use Rattle.configure.proofs.Nodes as Nodes
 use Rattle.configure.proofs.write.+write_write_slot.Given as goal
 
 abbrev pub decreases-write : goal.decreases-write

@@ -1,7 +1,6 @@
 -- `name` meets its contract, by its test of the field.
 use mathlib.Core.Path.{sym, ◌∙◌}
 use native.Mathlib.Omega.{arith}
-use borrow.Author.Rules.{rules}
 use Rattle.configure.specs.Inner.Writing.{named}
 use Rattle.configure.proofs.write.name.Goals as goal
 

@@ -1,6 +1,5 @@
 -- `begin` meets its contract: what is not live passes, a step is charged while the budget lasts, and then the setting is out.
 use native.Mathlib.Omega.{arith}
-use borrow.Author.Rules.{rules}
 use Rattle.plain.proofs.Beginning.{passes, steps_on, runs_out}
 use Rattle.plain.proofs.step.begin.Goals as goal
 

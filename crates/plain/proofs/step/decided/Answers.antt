@@ -1,7 +1,6 @@
 -- `decided` meets its contract: the test says which side is run.
 use mathlib.Core.Path.{◌∙◌, ap}
 use mathlib.Core.Bool.{cond}
-use borrow.Author.Rules.{rules}
 use Rattle.plain.proofs.step.decided.Goals as goal
 
 pub returns : goal.returns

@@ -1,5 +1,4 @@
 -- `fault` meets its contract: the value's number is the fault's code.
-use borrow.Author.Rules.{rules}
 use Rattle.plain.proofs.Beginning.{proper_fault}
 use Rattle.plain.proofs.Evaluation.{through}
 use Rattle.plain.proofs.Statements.{throws}

@@ -9,4 +9,4 @@ pub returns : goal.returns
 returns c =
     let a = c.args in
     let pre = c.requires in
-    takes a.node.variable a.p a.numbers.now pre.proper pre.sixteen (through c.struct_told-1.given.1.0.1 refl)
+    takes a.node.variable a.p a.numbers.now pre.proper pre.sixteen (through (search rules) refl)

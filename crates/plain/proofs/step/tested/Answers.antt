@@ -1,7 +1,6 @@
 -- `tested` meets its contract: what is not live is not tested.
 use mathlib.Core.Path.{◌≡◌}
 use native.Mathlib.Omega.{arith}
-use borrow.Author.Rules.{rules}
 use borrow.Author.Tests.{eq-eqb, ne_eqb}
 use Rattle.plain.proofs.step.tested.Goals as goal
 
