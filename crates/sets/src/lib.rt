@@ -4,8 +4,6 @@
 ghost use Rattle.std.specs.Prelude.{◌≡◌, ◌&&◌, ◌||◌, not, ℕ, ◌^◌, eqb, ltb, leb, get_or};
 ghost use Rattle.sets.specs.Member.{bit, has, members, verdict_of, full_of, full_has};
 
-mod panel; // panel.rt: the same for panel software in C
-
 #[derive(Clone, Copy)]
 pub struct Set {
     pub bits: u64,

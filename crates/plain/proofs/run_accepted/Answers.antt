@@ -8,12 +8,7 @@ use Rattle.imp.specs.State.{outcome_number, code}
 use Rattle.image.specs.declared.accept.Shape.{Shape}
 use Rattle.image.specs.Records.{header}
 use Rattle.image.specs.Check.{shape_of}
-<<<<<<< HEAD
-use Rattle.image.specs.Accepted.{Accepted}
 use Rattle.image.proofs.Theorem.Held.{root_class}
-=======
-use Rattle.image.proofs.Theorem.Held.{root_class}
->>>>>>> a942908fb6d39df8958ec61d5d01507098099eeb
 use Rattle.plain.specs.Inner.Progress.{outcome_from, Proper}
 use Rattle.plain.proofs.Plainly as plainly
 use Rattle.plain.proofs.run_accepted.Goals as goal

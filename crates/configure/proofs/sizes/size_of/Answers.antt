@@ -15,15 +15,8 @@ use Rattle.configure.specs.Inner.Term.{hang, term_at}
 use Rattle.configure.specs.Inner.Sizing.{SizesOf, Sizing}
 use Rattle.configure.specs.Theorem.Terms.{choice_term, node_term}
 use Rattle.configure.specs.Theorem.Small.{size_small}
-<<<<<<< HEAD
-use Rattle.image.proofs.Theorem.Choosing.{choice_condition, choice_b, choice_c, chosen_is, chosen_lower}
-use Rattle.configure.proofs.sizes.size_of.Lts as lts
-use Rattle.configure.proofs.sizes.size_of.Reads as reads
-use Rattle.configure.proofs.sizes.size_of.Tie as tie
-=======
 use Rattle.image.proofs.Theorem.Choosing.{choice_condition, choice_b, choice_c, chosen_is, chosen_lower}
 use Rattle.image.specs.declared.records.Node.{Node}
->>>>>>> a942908fb6d39df8958ec61d5d01507098099eeb
 use Rattle.configure.proofs.sizes.size_of.Goals as goal
 
 -- what a field adds

@@ -30,7 +30,6 @@ module _ (f : ℕ) (h : f ≤ 6) where
       let whole : 64 ≡ 2 ^ f + (64 - 2 ^ f) = omega (arith, at_most) in
       rw settings (ap (λ (w : ℕ). (2 ^ w - 1) / 2 ^ (64 - 2 ^ f)) whole ∙ ones_shr (2 ^ f) (64 - 2 ^ f))
 
-
 -- what the code's test says on either side
 many : (c : Then-f-gt6) → 6 < c.args.f
 many c = omega arith

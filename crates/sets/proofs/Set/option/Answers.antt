@@ -25,7 +25,6 @@ module _ (k : ℕ) (h : k < 6) where
   unfolding off
   divided = rw shifted
 
-
 -- where just those are taken away, option k is on in what is left
 left : (full k away s : ℕ) → full < 2 ^ 64 → k < 6 → away ≡ off 6 k → (bit full s && not (bit away s)) ≡ (bit full s && bit s k)
 left full k away s hf hk e = rw e (option_left 6 full k s hf hk)

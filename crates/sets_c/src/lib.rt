@@ -1,8 +1,10 @@
-// The sets for panel software in C: each method as an exported function on plain numbers, a set as its 64 bits.
+// The sets for panel software in C: each method of `sets` as an exported function on plain numbers, a set as its 64 bits.
+#![tactic(auto)]
+
 ghost use Rattle.std.specs.Prelude.{◌≡◌, ◌&&◌, ◌||◌, not, ℕ, ◌^◌, eqb, ltb, leb};
 ghost use Rattle.sets.specs.Member.{bit, members, full_of, bits_of, verdict_number};
 
-use super::{Full, Set};
+use sets::{Full, Set};
 
 #[unsafe(no_mangle)]
 pub extern "C" fn sets_meet(a: u64, b: u64) -> u64

@@ -11,7 +11,7 @@ use Rattle.sets.specs.declared.Full.{Full}
 use Rattle.sets.specs.declared.Full.TheVariants.{Of, Refused}
 use Rattle.sets.specs.Member.{bit, verdict_of, judged, full_of, full_has, bits_of}
 use Rattle.sets.proofs.Laws.{bit_none}
-use Rattle.sets.proofs.panel.sets_full.Goals as goal
+use Rattle.sets_c.proofs.sets_full.Goals as goal
 
 -- the contract of the result that stands for the answer a
 abbrev Told : ℕ → Full → Type 0

@@ -2,7 +2,7 @@
 use mathlib.Core.Path.{sym, ap, ◌∙◌}
 use borrow.Author.Rules.{rules}
 use Rattle.sets.specs.Member.{verdict_of, verdict_number}
-use Rattle.sets.proofs.panel.sets_full_refusal.Goals as goal
+use Rattle.sets_c.proofs.sets_full_refusal.Goals as goal
 
 pub returns-in-Of : goal.returns-in-Of
 returns-in-Of c = ap verdict_number (ap verdict_of (sym c.in-Of.is) ∙ c.full.ensures.result_value)
