@@ -3,10 +3,9 @@ use mathlib.Core.Path.{◌≡◌, sym, ◌∙◌, ap}
 use mathlib.Core.List.{List}
 use Prim.Native.Nat.{ℕ}
 use lib.ListN.{length}
-use borrow.Author.Rules.{rules}
 use Rattle.image.specs.declared.refusals.Refusal.{Refusal}
 use Rattle.image.specs.Refusals.{number_of, place_of}
-use Rattle.image.specs.Rows.{refused, answer, judge, check_rows}
+use Rattle.image.specs.Rows.{refused, judge, check_rows}
 use Rattle.image.specs.Check.{answer_of, shape_of}
 use Rattle.image.specs.Accepted.{Accepted}
 use Rattle.image.proofs.Theorem.Accepted.{accepts}
@@ -15,16 +14,7 @@ use Rattle.image.proofs.Theorem.Then.{judge_then, judge_stops, written_then, wri
 use Rattle.listing.specs.declared.Listed.{Listed}
 use Rattle.listing.specs.declared.Listed.TheVariants.{Refused}
 use Rattle.listing.specs.Lists.{text_rows, list_rows, Lists}
-use Rattle.listing.proofs.list.Lts as lts
-use Rattle.listing.proofs.list.Reads as reads
-use Rattle.listing.proofs.list.Tie as tie
 use Rattle.listing.proofs.list.Goals as goal
-
-abbrev In-Good-2 : Type 0
-In-Good-2 = lts.After-shape tie.the-claims reads.Pre reads.Post
-
-abbrev Start : Type 0
-Start = lts.Start tie.the-claims reads.Pre reads.Post
 
 module _ (l out : List ℕ) where
   refused_first : (r : Refusal) → refused (number_of r) (place_of r) ≡ judge (check_rows l) (shape_of l)
@@ -42,26 +32,15 @@ module _ (l out : List ℕ) where
     out_is = h.out_is ∙ sym (written_then (shape_of l) (check_rows l) _ _ _ (accepts l (shape_of l) a));
   }
 
-
--- where the image is good
-module _ (c : In-Good-2) where
-  abbrev start : Start
-  start = c.before.before.before.before.before
-
-  abbrev l : List ℕ
-  l = start.args.image.now
-
-  told : answer c.in-Good.shape ≡ judge (check_rows l) (shape_of l)
-  told = ap answer_of (sym c.in-Good.is) ∙ c.check.ensures
-
-
 pub list_good-requires : goal.list_good-requires
 list_good-requires c =
-    record { accepted = good_accepted (l c.before.before.before) _ (told c.before.before.before); shape_is = good_shape (l c.before.before.before) _ (told c.before.before.before) }
+    let told = ap answer_of (sym c.in-Good.is) ∙ c.check.ensures in
+    record { accepted = good_accepted _ _ told; shape_is = good_shape _ _ told }
 
 pub returns-in-Refused : goal.returns-in-Refused
 returns-in-Refused c = refused_first _ _ _ (ap answer_of (sym c.in-Refused.is) ∙ c.check.ensures)
 
 pub returns-in-Good : goal.returns-in-Good
 returns-in-Good c =
-    goes_on (l c.before.before.before.before.before.before) _ (good_accepted (l c.before.before.before.before.before.before) _ (told c.before.before.before.before.before.before)) c.list_good.ensures
+    let told = ap answer_of (sym c.in-Good.is) ∙ c.check.ensures in
+    goes_on _ _ (good_accepted _ _ told) c.list_good.ensures

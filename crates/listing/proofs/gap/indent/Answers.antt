@@ -1,5 +1,4 @@
 -- `indent` meets its contract: by the test that it makes.
-use borrow.Author.Rules.{rules}
 use borrow.Author.Tests.{lt-ltb, le-ltb}
 use Rattle.listing.proofs.gap.indent.Goals as goal
 

@@ -7,7 +7,6 @@ use native.Mathlib.Omega.{arith}
 use lib.Dec.{ltb}
 use lib.ListN.{length, take}
 use lib.Seq.{length-take-le}
-use borrow.Author.Rules.{rules}
 use borrow.Author.Tests.{ltb-true}
 use Rattle.text.proofs.Putting.{same}
 use Rattle.written.specs.Lister.{DEEPEST, spaces, line}
@@ -41,14 +40,14 @@ overflow_add-end c = omega (arith, c.indent-end.ensures, deep_few c.args.level)
 
 pub slice_bounds-put-end : goal.slice_bounds-put-end
 slice_bounds-put-end c =
-    sym (length-take-le _ _ (omega (arith, c.indent.ensures, deep_few c.args.level)))
+    sym (length-take-le _ _ (omega (arith, c.indent-end.ensures, deep_few c.args.level)))
 
 pub put-requires : goal.put-requires
 unfolding spaces
 put-requires c =
-    omega (arith, c.requires, ap length (line_is c.args.level c.indent.result c.indent.ensures))
+    omega (arith, c.requires, ap length (line_is c.args.level c.indent-end.result c.indent-end.ensures))
 
 pub returns : goal.returns
 unfolding spaces
 returns c =
-    same (line_is c.args.level c.indent.result c.indent.ensures) c.put.ensures
+    same (line_is c.args.level c.indent-end.result c.indent-end.ensures) c.put.ensures

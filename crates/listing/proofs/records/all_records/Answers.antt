@@ -1,10 +1,10 @@
 -- `all_records` meets its contract: before each turn the records of the nodes below n are there.
 use mathlib.Core.Path.{◌≡◌, refl, sym, ◌∙◌}
 use mathlib.Core.List.{List}
-use Prim.Native.Nat.{ℕ, ◌-◌, ◌≤◌, ◌<◌}
+use Prim.Native.Nat.{ℕ, ◌≤◌, ◌<◌}
 use native.Mathlib.Omega.{arith}
 use lib.ListN.{length, length-set}
-use Rattle.listing.specs.Inner.Counting.{capped, node_records, RecordsOf}
+use Rattle.listing.specs.Inner.Counting.{capped, node_records}
 use Rattle.listing.proofs.Counts.{more}
 use Rattle.listing.proofs.records.all_records.Lts as lts
 use Rattle.listing.proofs.records.all_records.Reads as reads
@@ -55,12 +55,12 @@ loop-n-preserved c =
     let l : List ℕ = c.args.image.now in
     let loop = c.loop-n in
     let w = c.node_records.result in
-    let long : length loop.records-1 ≡ 1024 = loop.invariant.1 in
-    let same = length-set loop.records-1 loop.n w in (
+    let long : length loop.records ≡ 1024 = loop.invariant.1 in
+    let same = length-set loop.records loop.n w in (
       omega arith,
       same ∙ long,
       record {
-        right = more (λ k. capped (node_records l k)) loop.n w loop.records-1 (omega (arith, long, in_table c.before)) loop.invariant.2.right c.node_records.ensures;
+        right = more (λ k. capped (node_records l k)) loop.n w loop.records (omega (arith, long, in_table c.before)) loop.invariant.2.right c.node_records.ensures;
         kept = omega (arith, same, long, in_table c.before);
       },
     )

@@ -1,11 +1,8 @@
 -- `all_records` meets its contract: before each turn the records of the nodes below n are there.
-use mathlib.Core.Path.{◌≡◌, refl, sym, ◌∙◌}
-use mathlib.Core.List.{List}
-use Prim.Native.Nat.{ℕ, ◌-◌, ◌≤◌, ◌<◌}
-use native.Mathlib.Omega.{arith}
-use lib.ListN.{length, length-set}
-use Rattle.listing.specs.Inner.Counting.{capped, node_records, RecordsOf}
-use Rattle.listing.proofs.Counts.{more}
+use mathlib.Core.Path.{◌≡◌}
+use Prim.Native.Nat.{◌-◌, ◌≤◌}
+use lib.ListN.{length}
+use Rattle.listing.specs.Inner.Counting.{RecordsOf}
 use Rattle.listing.proofs.records.all_records.Given as goal
 
 abbrev pub invariant-loop-n : goal.invariant-loop-n

@@ -2,7 +2,6 @@
 use mathlib.Core.Path.{◌≡◌, ◌∙◌}
 use Prim.Native.Nat.{ℕ, ◌+◌, ◌≤◌}
 use native.Mathlib.Omega.{arith}
-use borrow.Author.Rules.{rules}
 use Rattle.image.specs.Tree.{condition}
 use Rattle.written.specs.Count.{sizeᶜ}
 use Rattle.listing.specs.Inner.Counting.{capped}
@@ -49,7 +48,6 @@ module _ (c : After-named_size-right) where
 
   sums : (x ≤ 257) × (y ≤ 257) × ((all : ℕ) → all ≡ x + y + 1 → capped all ≡ capped (sizeᶜ (condition start.args.image.now start.args.k)))
   sums = whole_size start.requires own.before.condition_at-r.ensures own.condition_layout-digits.ensures c.named_size-left.ensures c.named_size-right.ensures
-
 
 pub overflow_add-left : goal.overflow_add-left
 overflow_add-left c = omega (arith, (sums c.before).0, (sums c.before).1)

@@ -1,12 +1,12 @@
 -- `condition_sizes` meets its contract: before each turn the sizes of the conditions below k are there.
 use mathlib.Core.Path.{◌≡◌, refl, sym, ◌∙◌}
 use mathlib.Core.List.{List}
-use Prim.Native.Nat.{ℕ, ◌-◌, ◌≤◌, ◌<◌}
+use Prim.Native.Nat.{ℕ, ◌<◌}
 use native.Mathlib.Omega.{arith}
 use lib.ListN.{length, length-set}
 use Rattle.image.specs.Tree.{condition}
 use Rattle.written.specs.Count.{sizeᶜ}
-use Rattle.listing.specs.Inner.Counting.{capped, SizesOf}
+use Rattle.listing.specs.Inner.Counting.{capped}
 use Rattle.listing.proofs.Counts.{more}
 use Rattle.listing.proofs.records.condition_sizes.Lts as lts
 use Rattle.listing.proofs.records.condition_sizes.Reads as reads
@@ -53,12 +53,12 @@ loop-k-preserved c =
     let l : List ℕ = c.args.image.now in
     let loop = c.loop-k in
     let w = c.condition_size.result in
-    let long : length loop.sizes-1 ≡ 256 = loop.invariant.1 in
-    let same = length-set loop.sizes-1 loop.k w in (
+    let long : length loop.sizes ≡ 256 = loop.invariant.1 in
+    let same = length-set loop.sizes loop.k w in (
       omega arith,
       same ∙ long,
       record {
-        right = more (λ k. capped (sizeᶜ (condition l k))) loop.k w loop.sizes-1 (omega (arith, long, in_table c.before)) loop.invariant.2.right c.condition_size.ensures;
+        right = more (λ k. capped (sizeᶜ (condition l k))) loop.k w loop.sizes (omega (arith, long, in_table c.before)) loop.invariant.2.right c.condition_size.ensures;
         kept = omega (arith, same, long, in_table c.before);
       },
     )

@@ -2,7 +2,6 @@
 use mathlib.Core.Path.{◌≡◌, ◌∙◌}
 use Prim.Native.Nat.{ℕ, ◌+◌, ◌≤◌}
 use native.Mathlib.Omega.{arith}
-use borrow.Author.Rules.{rules}
 use Rattle.listing.specs.Inner.Counting.{capped, node_records}
 use Rattle.listing.proofs.Counts.{field_a, field_b, field_c, whole_count}
 use Rattle.listing.proofs.records.node_records.Lts as lts
@@ -56,7 +55,6 @@ module _ (c : After-field_records-in_c) where
   sums =
       whole_count start.requires own.before.node_at-node.ensures own.layout-digits.ensures
       c.field_records-in_a.ensures c.field_records-in_b.ensures c.field_records-in_c.ensures
-
 
 pub overflow_add-in_a : goal.overflow_add-in_a
 overflow_add-in_a c = omega (arith, (sums c.before).0, (sums c.before).1, (sums c.before).2)

@@ -1,7 +1,6 @@
 -- `written_records` meets its contract: the records of the root are those of the routine.
 use mathlib.Core.Path.{ap, ◌∙◌}
 use Prim.Native.Nat.{◌-◌}
-use borrow.Author.Rules.{rules}
 use Rattle.listing.specs.Inner.Counting.{capped, node_records}
 use Rattle.listing.specs.Theorem.Root.{root_records}
 use Rattle.listing.proofs.records.written_records.Goals as goal

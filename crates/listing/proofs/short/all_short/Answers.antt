@@ -4,9 +4,8 @@ use mathlib.Core.Bool.{Bool, true}
 use mathlib.Core.List.{List}
 use Prim.Native.Nat.{ℕ, ◌<◌}
 use native.Mathlib.Omega.{arith}
-use borrow.Author.Rules.{rules}
 use Rattle.image.specs.declared.records.Node.{Node}
-use Rattle.image.specs.Records.{header, node}
+use Rattle.image.specs.Records.{header}
 use Rattle.image.specs.Layout.{layout, a_digit, b_digit, c_digit, names_node}
 use Rattle.image.specs.Tree.{Read}
 use Rattle.image.proofs.Theorem.Held.{Child}
@@ -36,7 +35,6 @@ module _ {l : List ℕ} {conditions digits : ℕ} (ν : Node) (e : digits ≡ la
 
   field_c : AskingField l conditions (c_digit digits) ν.c
   field_c = rw (e, pre.is_node) (asking pre.good pre.node_below (in_c l pre.good.accepted pre.n pre.node_below))
-
 
 -- one field after the other
 in_turn : (at : ℕ → Read) (ν : Node) {digits : ℕ} {u v w : Bool} → digits ≡ layout ν.kind → u ≡ still_short at true (a_digit digits) ν.a

@@ -1,6 +1,5 @@
 -- `condition_sign` meets its contract: the table of src/spelling.rt is that of specs/Inner/Spelling.antt.
 use mathlib.Core.Path.{sym}
-use borrow.Author.Rules.{rules}
 use Rattle.listing.specs.Inner.Spelling.{condition_spellings}
 use Rattle.listing.specs.Theorem.Signs.{condition_in_row, no_condition_row}
 use Rattle.listing.proofs.spelling.condition_sign.Goals as goal

@@ -1,6 +1,5 @@
 -- `sign` meets its contract: the table of src/spelling.rt is that of specs/Inner/Spelling.antt.
 use mathlib.Core.Path.{sym}
-use borrow.Author.Rules.{rules}
 use Rattle.listing.specs.Inner.Spelling.{spellings}
 use Rattle.listing.specs.Theorem.Signs.{in_row, no_row}
 use Rattle.listing.proofs.spelling.sign.Goals as goal

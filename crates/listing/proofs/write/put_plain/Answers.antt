@@ -8,7 +8,6 @@ use lib.IntN.{ℤ}
 use lib.ListN.{length}
 use mir.Syntax.{w32}
 use mir.Facts.{to_z-of_z}
-use borrow.Author.Rules.{rules}
 use borrow.Author.Tests.{ne_eqb}
 use Rattle.imp.specs.Numbers.{signed32}
 use Rattle.text.specs.Decimal.{signed_decimal}
@@ -17,16 +16,7 @@ use Rattle.text.proofs.Putting.{byte, same}
 use Rattle.written.specs.Lister.{gap}
 use Rattle.listing.specs.Inner.Spelling.{plainly}
 use Rattle.listing.specs.Inner.Listing.{Plain}
-use Rattle.listing.proofs.write.put_plain.Lts as lts
-use Rattle.listing.proofs.write.put_plain.Reads as reads
-use Rattle.listing.proofs.write.put_plain.Tie as tie
 use Rattle.listing.proofs.write.put_plain.Goals as goal
-
-abbrev In_default : Type 0
-In_default = lts.At-match-rest tie.the-claims reads.Pre reads.Post
-
-abbrev After-signed : Type 0
-After-signed = lts.After-signed tie.the-claims reads.Pre reads.Post
 
 -- ---- a sign that is known
 
@@ -45,18 +35,9 @@ unfolding plainly
 itself variable value flat level s v n inner own line dot =
     rw (ne_eqb s 86 v, ne_eqb s 78 n, ne_eqb s 62 inner, ne_eqb s 94 own, ne_eqb s 64 line, ne_eqb s 46 dot)
 
-its_own : (c : In_default) → (let a = c.args in plainly a.variable (signed32 a.value) a.flat a.level a.sign ≡ a.sign ∷ [])
-its_own c =
-    let rest = c.in_default.rest in
-    itself _ _ _ _ _ rest.0.0.0.0.0.1 rest.0.0.0.0.1 rest.0.0.0.1 rest.0.0.1 rest.0.1 rest.1
-
 -- a level more
 deeper : (flat : Bool) (level : ℕ) → gap flat (level + 1) ≡ gap flat (suc level)
 deeper flat level = ap (gap flat) (omega arith)
-
--- the number, as the machine reads it back
-value_is : (c : After-signed) → c.signed.result ≡ signed32 c.args.value
-value_is c = c.signed.ensures
 
 pub put_decimal-requires : goal.put_decimal-requires
 unfolding plainly
@@ -66,7 +47,7 @@ pub put_signed-requires : goal.put_signed-requires
 unfolding plainly
 put_signed-requires c =
     let h = room 78 c.in-78.is c.requires in
-    omega (arith, h, ap (λ z. length (signed_decimal z)) (to_z-of_z {w = w32} (record { sfits = c.signed.type_inv }) ∙ value_is c))
+    omega (arith, h, ap (λ z. length (signed_decimal z)) (to_z-of_z {w = w32} (record { sfits = c.signed.type_inv }) ∙ c.signed.ensures))
 
 pub put_gap-requires : goal.put_gap-requires
 unfolding plainly
@@ -82,7 +63,10 @@ unfolding plainly
 put_line-requires c = room 64 c.in-64.is c.requires
 
 pub bounds-out-at : goal.bounds-out-at
-bounds-out-at c = omega (arith, c.requires.fits, ap length (its_own c))
+bounds-out-at c =
+    let a = c.args in
+    let own : plainly a.variable (signed32 a.value) a.flat a.level a.sign ≡ a.sign ∷ [] = itself _ _ _ _ c.args.sign (λ e. omega arith) (λ e. omega arith) (λ e. omega arith) (λ e. omega arith) (λ e. omega arith) (λ e. omega arith) in
+    omega (arith, c.requires.fits, ap length own)
 
 pub returns-in-86 : goal.returns-in-86
 unfolding plainly
@@ -91,7 +75,7 @@ returns-in-86 c = put_as _ _ _ _ c.in-86.is c.put_decimal.ensures
 pub returns-in-78 : goal.returns-in-78
 unfolding plainly
 returns-in-78 c =
-    put_as _ _ _ _ c.in-78.is (same (ap signed_decimal (to_z-of_z {w = w32} (record { sfits = c.signed.type_inv }) ∙ value_is c.before.before.before.before)) c.put_signed.ensures)
+    put_as _ _ _ _ c.in-78.is (same (ap signed_decimal (to_z-of_z {w = w32} (record { sfits = c.signed.type_inv }) ∙ c.signed.ensures)) c.put_signed.ensures)
 
 pub returns-in-62 : goal.returns-in-62
 unfolding plainly
@@ -113,4 +97,6 @@ returns-in-46 c =
 
 pub returns-in_default : goal.returns-in_default
 returns-in_default c =
-    same (sym (its_own c)) (byte c.args.sign c.args.at c.args.out.now (bounds-out-at c))
+    let a = c.args in
+    let own : plainly a.variable (signed32 a.value) a.flat a.level a.sign ≡ a.sign ∷ [] = itself _ _ _ _ c.args.sign (λ e. omega arith) (λ e. omega arith) (λ e. omega arith) (λ e. omega arith) (λ e. omega arith) (λ e. omega arith) in
+    same (sym own) (byte a.sign a.at a.out.now (omega (arith, c.requires.fits, ap length own)))
