@@ -8,7 +8,7 @@ use native.Mathlib.Decide.{dec_lt}
 use lib.Dec.{eqb, ltb}
 use lib.IntN.{ℤ}
 use lib.ListN.{length}
-use borrow.Author.Tests.{not_true, eqb-true, ltb-false, lt-ltb, le-ltb}
+use borrow.Author.Tests.{not-true, eqb-true, ltb-false, lt-ltb, le-ltb}
 use Rattle.sets.specs.declared.Set.{Set}
 use Rattle.sets.specs.Member.{bit, members}
 use Rattle.sets.proofs.Laws.{bit_past}
@@ -53,7 +53,7 @@ module _ (N set left : ℕ) (wide : set < 2 ^ 64) (fits : left < 2 ^ 64) (taken 
       go true false e f =
           let r : (s : ℕ) × (s < 64) × (bit left s ≡ true) = any_true 64 (bit left) e in
           let p = and_true (bit set r.0) (not (ltb r.0 N)) (sym (taken r.0) ∙ r.2) in
-          absurd (true≢false (sym ((beyond_is N set wide).1 (r.0, ltb-false r.0 N (not_true _ p.1), p.0)) ∙ f))
+          absurd (true≢false (sym ((beyond_is N set wide).1 (r.0, ltb-false r.0 N (not-true _ p.1), p.0)) ∙ f))
       go false true e f =
           let r = (beyond_is N set wide).0 f in
           let here : bit left r.0 ≡ true = taken r.0 ∙ rw (r.2, le-ltb r.0 N r.1) in

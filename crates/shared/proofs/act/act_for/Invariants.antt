@@ -1,20 +1,14 @@
 -- `act_for` meets its contract: before each turn the settings of the set below s have had theirs.
-use mathlib.Core.Path.{◌≡◌, sym, ◌∙◌}
 use Prim.Native.Nat.{◌-◌, ◌≤◌}
-use native.Mathlib.Omega.{arith}
-use native.Mathlib.Numerals.{add-one}
-use borrow.Author.Rules.{rules}
 use Rattle.sets.specs.Member.{bit}
 use Rattle.shared.specs.Lent.{tally}
 use Rattle.shared.specs.Inner.Lent.{Lent, own}
 use Rattle.shared.specs.Inner.Acting.{acting}
-use Rattle.shared.proofs.Acts.{acted_for}
-use Rattle.shared.proofs.Each.{Upto, upto_none, upto_next}
-use Rattle.shared.proofs.Own.{still}
+use Rattle.shared.proofs.Each.{Upto}
 use Rattle.shared.proofs.act.act_for.Given as goal
 
 abbrev pub invariant-loop-s : goal.invariant-loop-s
-invariant-loop-s l =     (l.s ≤ l.n) × Lent l.n l.store (tally l.outcomes l.codes l.steps)
+invariant-loop-s l = (l.s ≤ l.n) × Lent l.n l.store (tally l.outcomes l.codes l.steps)
     × Upto l.s (bit l.turn.on.bits) (acting l.image l.node) (own l.initial.store (tally l.initial.outcomes l.initial.codes l.initial.steps)) (own l.store (tally l.outcomes l.codes l.steps))
 
 abbrev pub decreases-loop-s : goal.decreases-loop-s

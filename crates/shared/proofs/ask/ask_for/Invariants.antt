@@ -1,11 +1,7 @@
 -- `ask_for` meets its contract: before each turn the settings below s whose answer is yes are found.
-use mathlib.Core.Path.{◌≡◌}
 use Prim.Native.Nat.{◌-◌, ◌≤◌}
-use native.Mathlib.Omega.{arith}
-use native.Mathlib.Numerals.{add-one}
-use borrow.Author.Rules.{rules}
 use Rattle.sets.specs.Member.{bit}
-use Rattle.shared.proofs.Found.{Found, found_none, found_next, found_all}
+use Rattle.shared.proofs.Found.{Found}
 use Rattle.shared.proofs.Own.{answers}
 use Rattle.shared.proofs.ask.ask_for.Given as goal
 

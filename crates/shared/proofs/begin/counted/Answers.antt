@@ -2,7 +2,6 @@
 use mathlib.Core.Path.{◌≡◌, refl, sym, ◌∙◌}
 use mathlib.Core.Bool.{true, false}
 use lib.Dec.{eqb}
-use borrow.Author.Rules.{rules}
 use borrow.Author.Tests.{eqb-false}
 use Rattle.sets.specs.Member.{members}
 use Rattle.shared.proofs.begin.counted.Lts as lts

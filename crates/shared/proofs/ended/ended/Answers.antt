@@ -1,13 +1,9 @@
 -- `ended` meets its contract: before each turn the settings below s with this outcome are found.
 use mathlib.Core.Path.{◌≡◌}
-use mathlib.Core.Bool.{true}
-use Prim.Native.Nat.{◌-◌, ◌^◌, ◌≤◌, ◌<◌}
 use native.Mathlib.Omega.{arith}
 use native.Mathlib.Numerals.{add-one}
-use lib.Dec.{eqb}
-use lib.ListN.{length, get_or}
-use borrow.Author.Rules.{rules}
-use Rattle.shared.proofs.Found.{Found, found_none, found_next}
+use lib.ListN.{length}
+use Rattle.shared.proofs.Found.{found_none, found_next}
 use Rattle.shared.proofs.SetOf.{found_set}
 use Rattle.shared.proofs.ended.ended.Goals as goal
 

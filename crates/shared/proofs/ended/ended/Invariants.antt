@@ -1,18 +1,13 @@
 -- `ended` meets its contract: before each turn the settings below s with this outcome are found.
-use mathlib.Core.Path.{◌≡◌}
 use mathlib.Core.Bool.{true}
 use Prim.Native.Nat.{◌-◌, ◌^◌, ◌≤◌, ◌<◌}
-use native.Mathlib.Omega.{arith}
-use native.Mathlib.Numerals.{add-one}
 use lib.Dec.{eqb}
-use lib.ListN.{length, get_or}
-use borrow.Author.Rules.{rules}
-use Rattle.shared.proofs.Found.{Found, found_none, found_next}
-use Rattle.shared.proofs.SetOf.{found_set}
+use lib.ListN.{get_or}
+use Rattle.shared.proofs.Found.{Found}
 use Rattle.shared.proofs.ended.ended.Given as goal
 
 abbrev pub invariant-loop-s : goal.invariant-loop-s
-invariant-loop-s l =     (l.s ≤ l.n) × (l.found.bits < 2 ^ 64)
+invariant-loop-s l = (l.s ≤ l.n) × (l.found.bits < 2 ^ 64)
     × Found l.s (λ t. true) (λ t. eqb (get_or l.outcomes t 0) l.outcome) l.found.bits
 
 abbrev pub decreases-loop-s : goal.decreases-loop-s

@@ -2,7 +2,6 @@
 use mathlib.Core.Bool.{true}
 use lib.Dec.{eqb}
 use lib.ListN.{get_or}
-use borrow.Author.Rules.{rules}
 use borrow.Author.Tests.{eq-eqb, ne_eqb}
 use Rattle.imp.specs.Shared.{Settings}
 use Rattle.shared.proofs.Found.{found_no, found_yes}

@@ -1,7 +1,6 @@
 -- `progress_of` meets its contract: what stands at s of each.
 use mathlib.Core.Path.{refl, ap}
 use lib.ListN.{get_or}
-use borrow.Author.Rules.{rules}
 use Rattle.plain.proofs.Evaluation.{through}
 use Rattle.shared.specs.Lent.{progress}
 use Rattle.shared.proofs.lent.progress_of.Goals as goal

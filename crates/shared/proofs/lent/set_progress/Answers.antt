@@ -1,7 +1,6 @@
 -- `set_progress` meets its contract: each of the three numbers goes to its place.
 use mathlib.Core.Path.{refl, ap}
 use lib.ListN.{set}
-use borrow.Author.Rules.{rules}
 use Rattle.plain.proofs.Evaluation.{through}
 use Rattle.shared.specs.Lent.{tally}
 use Rattle.shared.specs.Inner.Lent.{put}

@@ -1,32 +1,7 @@
--- The cycle of `run` and its kinds: each member meets its contract, given that the others do for smaller measures.
-use Prim.Native.Nat.{ℕ, ◌+◌, ◌*◌, ◌<◌, max, ◌≤◌}
-use mathlib.Core.Path.{◌≡◌, sym, ◌∙◌, refl}
-use mathlib.Core.Bool.{true, false}
-use mathlib.Core.List.{List}
-use lib.IntN.{ℤ}
-use borrow.Author.Tests.{not-false, not_true}
-use Rattle.sets.specs.Member.{bit}
-use Rattle.imp.specs.Shared.{Settings, any, Shared, begun, for}
-use Rattle.image.specs.declared.records.Node.{Node}
-use Rattle.image.specs.Bytes.{Bytes}
-use Rattle.shared.specs.declared.plan.Plan.{Plan}
-use Rattle.shared.specs.declared.turn.Turn.{Turn}
-use Rattle.shared.specs.Lent.{Tally, tally}
-use Rattle.shared.specs.Inner.Lent.{as_shared}
-use Rattle.shared.specs.Inner.Sharing.{Sharing, sharing, following, deciding, turning, trying}
-use Rattle.shared.proofs.Members.{any_members}
-use Rattle.shared.proofs.Begun.{does, does_nothing}
-use Rattle.shared.proofs.Keeping.{begun_on, no_more, after_run, then_shares, reaching, can_begin}
-use Rattle.shared.proofs.Parting.{of_image, for_some_of, can_ask, can_act, parts_chosen, parts_decided}
-use Rattle.shared.proofs.Statements.{At, Alone, below_a, below_b, below_c, chooses, follows, decides, repeats, attempts, expression, variable_there, choice_shares, skip_begins, sequence_begins, if_begins, while_begins, try_begins, act_begins}
-use native.Mathlib.Omega.{arith}
-use borrow.Author.Rules.{rules}
-use Rattle.shared.proofs.Made.{made_of, rem_of, sharing_for, acting_for, acted_for_them, shares_for, begun_for}
-use Rattle.shared.proofs.Tries.{after_act, tried}
-use Rattle.shared.proofs.Whose.{where_tested}
-use Rattle.shared.proofs.Loops.{Turning, turns_left, starting, from_start, turned, nearer, ending}
-use Rattle.image.specs.Layout.{kinds, layout, names_node}
-use Rattle.shared.specs.Inner.Acting.{acting}
+-- The measures of `run` and its kinds: what remains of the budget and the node's number fall together; and what each turn of a while leaves the same.
+use Prim.Native.Nat.{◌+◌, ◌*◌, max}
+use Rattle.shared.specs.Lent.{tally}
+use Rattle.shared.proofs.Loops.{Turning, turns_left}
 use Rattle.shared.proofs.run.+attempt_both_choose_decide_follow_repeat_run.Given as goal
 
 abbrev pub decreases-attempt : goal.decreases-attempt
@@ -49,3 +24,11 @@ decreases-repeat l = 3 * (l.turn.rem + l.node.b) + 1
 
 abbrev pub decreases-run : goal.decreases-run
 decreases-run l = 3 * (l.turn.rem + l.n)
+
+abbrev pub invariant-repeat-loop-plan : goal.invariant-repeat-loop-plan
+invariant-repeat-loop-plan l =
+    Turning l.image l.plan l.sets l.node l.initial.store (tally l.initial.outcomes l.initial.codes l.initial.steps) l.initial.now
+    l.store (tally l.outcomes l.codes l.steps) l.now
+
+abbrev pub decreases-repeat-loop-plan : goal.decreases-repeat-loop-plan
+decreases-repeat-loop-plan l = turns_left l.now

@@ -1,7 +1,6 @@
 -- `first_outcome` meets its contract: done so far in the set, idle outside of it.
 use mathlib.Core.Path.{sym, ◌∙◌, ap}
 use mathlib.Core.Bool.{cond}
-use borrow.Author.Rules.{rules}
 use Rattle.shared.proofs.start.first_outcome.Goals as goal
 
 pub returns-then-has : goal.returns-then-has

@@ -1,11 +1,7 @@
 -- `start_all` meets its contract: before each turn the settings below s are started.
-use mathlib.Core.Path.{◌≡◌, sym, ◌∙◌}
 use Prim.Native.Nat.{◌-◌, ◌≤◌}
-use native.Mathlib.Omega.{arith}
-use native.Mathlib.Numerals.{add-one}
-use borrow.Author.Rules.{rules}
 use Rattle.shared.specs.Lent.{tally}
-use Rattle.shared.proofs.Starting.{StartedBelow, none_started, one_more, all_started}
+use Rattle.shared.proofs.Starting.{StartedBelow}
 use Rattle.shared.proofs.start.start_all.Given as goal
 
 abbrev pub invariant-loop-s : goal.invariant-loop-s

@@ -1,5 +1,4 @@
 -- `start_at` meets its contract: setting s is put at its first progress.
-use borrow.Author.Rules.{rules}
 use Rattle.shared.specs.Lent.{tally}
 use Rattle.shared.proofs.Starting.{first_put}
 use Rattle.shared.proofs.start.start_at.Goals as goal

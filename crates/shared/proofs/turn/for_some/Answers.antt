@@ -1,7 +1,6 @@
 -- `for_some` meets its contract: some are left where the set is not empty.
 use mathlib.Core.Path.{ap}
 use mathlib.Core.Bool.{not}
-use borrow.Author.Rules.{rules}
 use Rattle.shared.proofs.turn.for_some.Goals as goal
 
 pub returns : goal.returns
