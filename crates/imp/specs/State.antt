@@ -1,5 +1,5 @@
 -- What a run keeps of one setting, and the changes that a run is made of (document 01, "Running", "What is lent and what comes back").
-use Rattle.std.specs.Prelude.{ℕ, suc, Bool, true, false, cond, not, ◌&&◌, List, set, ℤ, pos, nat_lt, slice_set}
+use Rattle.std.specs.Prelude.{ℕ, suc, Bool, true, false, cond, not, ◌&&◌, List, ℤ, pos, nat_lt, slice_set}
 
 -- the variables' numbers, variable 0 first
 abbrev pub Numbers : Type 0

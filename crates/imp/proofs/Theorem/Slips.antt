@@ -1,6 +1,6 @@
 -- "Slips we have seen", each ruled out for every routine, set and start; and a spent setting that is not made out.
 -- The idea: a setting's end is its own (`Agreement`), so each slip would break a law of the plain run.
-use Rattle.std.specs.Prelude.{◌≡◌, ℕ, suc, ◌<◌, ◌≤◌, Bool, true, false, cond, not, ◌&&◌, set, ℤ, pos, ◌≢◌, slice_set, refl}
+use Rattle.std.specs.Prelude.{◌≡◌, ℕ, suc, ◌<◌, ◌≤◌, Bool, true, false, cond, not, ◌&&◌, ℤ, pos, ◌≢◌, slice_set, refl}
 use Rattle.std.proofs.Math.Path.{sym, ap, ap₂, fun_ext}
 use Rattle.std.proofs.Common.{◌∙◌, arith}
 use Rattle.imp.specs.Condition.{Condition, holds}

@@ -7,7 +7,6 @@ use Rattle.imp.proofs.Theorem.Wrap.{low_fits, low_is}
 use Rattle.imp.proofs.Laws.{in64, through64}
 use Rattle.imp.proofs.bits.Lts as lts
 use Rattle.imp.proofs.bits.Reads as reads
-use Rattle.imp.proofs.bits.Tie as tie
 use Rattle.imp.proofs.bits.Goals as goal
 
 abbrev Then-a-lt0 : Type 0

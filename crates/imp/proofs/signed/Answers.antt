@@ -1,5 +1,5 @@
 -- `imp::signed` meets its contract: bits of the lower half are the number, bits of the upper half are 2 ^ 32 above it.
-use Rattle.std.proofs.Common.{◌≡◌, ℕ, suc, ◌-◌, ◌^◌, ◌<◌, ◌≤◌, Bool, true, false, cond, ltb, ℤ, pos, negsuc, ◌+ℤ◌, sym, refl, ◌∙◌, arith, to_z-of_z, w32, w64, SFits, to_z, of_z, rules, ltb-false, ltb-true, le-ltb, lt-ltb}
+use Rattle.std.proofs.Common.{◌≡◌, ℕ, suc, ◌-◌, ◌^◌, ◌<◌, ◌≤◌, Bool, true, false, cond, ltb, ℤ, pos, negsuc, ◌+ℤ◌, sym, refl, ◌∙◌, arith, to_z-of_z, w32, w64, SFits, to_z, of_z, ltb-false, ltb-true, le-ltb, lt-ltb}
 use lib.IntN.{sub_ℕ}
 use lib.Signed.{mag}
 use mir.Facts.{to_z_pos}
@@ -8,7 +8,6 @@ use Rattle.imp.proofs.Theorem.Wrap.{signed_is}
 use Rattle.imp.proofs.Laws.{in64, through64}
 use Rattle.imp.proofs.signed.Lts as lts
 use Rattle.imp.proofs.signed.Reads as reads
-use Rattle.imp.proofs.signed.Tie as tie
 use Rattle.imp.proofs.signed.Goals as goal
 
 abbrev Else-n-lt2147483648 : Type 0

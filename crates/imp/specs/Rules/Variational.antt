@@ -1,6 +1,6 @@
 -- The helpers of Figures 5.3 to 5.5 and 5.7, over sets of settings: a condition is the set in which it is true, and a variational value is given by
 -- what it configures to in each setting, so that `sel` and the SAT solver are not needed.
-use Rattle.std.specs.Prelude.{◌≡◌, ℕ, suc, Bool, true, false, cond, not, ◌&&◌, ◌||◌, List, [], ◌∷◌, set, ℤ, pos, nat_lt, slice_index_or, slice_set}
+use Rattle.std.specs.Prelude.{◌≡◌, ℕ, suc, Bool, true, false, cond, not, ◌&&◌, ◌||◌, List, [], ◌∷◌, ℤ, pos, nat_lt, slice_index_or, slice_set}
 use Rattle.imp.specs.Condition.{Condition}
 use Rattle.imp.specs.Routine.{Statement, skip, assign, sequence, if, while, throw, try, choice}
 use Rattle.imp.specs.State.{Numbers, Outcome, idle, done, fault, out, State}

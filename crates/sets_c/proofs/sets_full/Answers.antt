@@ -5,7 +5,6 @@ use Prim.Native.Nat.{ℕ, ◌-◌, ◌^◌}
 use native.Mathlib.Omega.{arith}
 use lib.Dec.{eqb, leb, ltb}
 use lib.Pow.{pow_pos, pow-lt}
-use borrow.Author.Rules.{rules}
 use borrow.Author.Tests.{ne_eqb}
 use Rattle.sets.specs.declared.Full.{Full}
 use Rattle.sets.specs.declared.Full.TheVariants.{Of, Refused}

@@ -1,6 +1,5 @@
 -- `sets_full_refusal` meets its contract: the number is the one that `Set::full` gives the refusal.
 use mathlib.Core.Path.{sym, ap, ◌∙◌}
-use borrow.Author.Rules.{rules}
 use Rattle.sets.specs.Member.{verdict_of, verdict_number}
 use Rattle.sets_c.proofs.sets_full_refusal.Goals as goal
 

@@ -1,9 +1,6 @@
 -- `lowest_class` meets its contract: each node that the loop has passed has children of the right class.
-use mathlib.Core.Bool.{not}
-use Prim.Native.Nat.{◌-◌}
 use native.Mathlib.Omega.{arith}
-use Rattle.image.specs.Rows.{classed}
-use Rattle.image.proofs.Searches.{Passed, begins, goes_on, finds, ends}
+use Rattle.image.proofs.Searches.{begins, goes_on, finds, ends}
 use Rattle.image.proofs.accept.lowest_class.Goals as goal
 
 pub loop-n-init : goal.loop-n-init

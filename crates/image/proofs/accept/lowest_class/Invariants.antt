@@ -1,9 +1,8 @@
 -- `lowest_class` meets its contract: each node that the loop has passed has children of the right class.
 use mathlib.Core.Bool.{not}
 use Prim.Native.Nat.{◌-◌}
-use native.Mathlib.Omega.{arith}
 use Rattle.image.specs.Rows.{classed}
-use Rattle.image.proofs.Searches.{Passed, begins, goes_on, finds, ends}
+use Rattle.image.proofs.Searches.{Passed}
 use Rattle.image.proofs.accept.lowest_class.Given as goal
 
 abbrev pub invariant-loop-n : goal.invariant-loop-n

@@ -1,11 +1,6 @@
 -- `lowest_condition` meets its contract: each condition that the loop has passed fits.
-use mathlib.Core.Bool.{not}
-use Prim.Native.Nat.{◌-◌}
 use native.Mathlib.Omega.{arith}
-use borrow.Author.Rules.{rules}
-use Rattle.image.specs.Records.{condition_record}
-use Rattle.image.specs.Rows.{condition_fits}
-use Rattle.image.proofs.Searches.{Passed, begins, goes_on, finds, ends}
+use Rattle.image.proofs.Searches.{begins, goes_on, finds, ends}
 use Rattle.image.proofs.accept.lowest_condition.Goals as goal
 
 pub loop-k-init : goal.loop-k-init

@@ -1,11 +1,9 @@
 -- `lowest_node` meets its contract: each node that the loop has passed fits.
 use mathlib.Core.Bool.{not}
 use Prim.Native.Nat.{◌-◌}
-use native.Mathlib.Omega.{arith}
-use borrow.Author.Rules.{rules}
 use Rattle.image.specs.Records.{node}
 use Rattle.image.specs.Rows.{node_fits}
-use Rattle.image.proofs.Searches.{Passed, begins, goes_on, finds, ends}
+use Rattle.image.proofs.Searches.{Passed}
 use Rattle.image.proofs.accept.lowest_node.Given as goal
 
 abbrev pub invariant-loop-n : goal.invariant-loop-n

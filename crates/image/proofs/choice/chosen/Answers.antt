@@ -1,7 +1,6 @@
 -- `chosen` meets its contract: the side is taken by membership in the set that is looked up.
 use mathlib.Core.Path.{◌∙◌, ap}
 use mathlib.Core.Bool.{cond}
-use borrow.Author.Rules.{rules}
 use Rattle.sets.specs.Member.{bit}
 use Rattle.image.proofs.choice.chosen.Goals as goal
 

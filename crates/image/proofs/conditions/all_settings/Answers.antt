@@ -4,7 +4,6 @@ use mathlib.Core.Bool.{false}
 use Prim.Native.Nat.{ℕ}
 use native.Mathlib.Omega.{arith}
 use lib.Dec.{ltb}
-use borrow.Author.Rules.{rules}
 use borrow.Author.Tests.{le-leb, le-ltb}
 use Rattle.sets.specs.Member.{refused, full_has, verdict_of, full_of, judged}
 use Rattle.image.proofs.conditions.all_settings.Goals as goal

@@ -5,7 +5,6 @@ use Prim.Native.Nat.{ℕ, ◌/◌, ◌%◌, ◌<◌}
 use mathlib.Core.List.{List}
 use native.Mathlib.Omega.{arith}
 use lib.ListN.{get_or}
-use borrow.Author.Rules.{rules}
 use Rattle.sets.specs.Member.{bit}
 use Rattle.sets.proofs.Laws.{bit_none}
 use Rattle.image.specs.Records.{header, condition_record}

@@ -1,5 +1,4 @@
 -- `class` meets its contract: it joins what its callees ensure.
-use borrow.Author.Rules.{rules}
 use Rattle.image.specs.Rows.{class}
 use Rattle.image.proofs.fits.class.Goals as goal
 

@@ -3,7 +3,6 @@ use mathlib.Core.Bool.{and-true}
 use Prim.Native.Nat.{ℕ, suc, ◌+◌, ◌*◌, ◌≤◌, ◌<◌}
 use native.Mathlib.Omega.{arith}
 use lib.ListN.{length}
-use borrow.Author.Rules.{rules}
 use borrow.Author.Tests.{eq-eqb, ne_eqb}
 use Rattle.image.specs.Records.{header}
 use Rattle.image.specs.Rows.{class, classed}

@@ -1,5 +1,4 @@
 -- `condition_fits` meets its contract: it joins what its callees ensure.
-use borrow.Author.Rules.{rules}
 use Rattle.image.specs.Rows.{condition_fits}
 use Rattle.image.proofs.fits.condition_fits.Goals as goal
 

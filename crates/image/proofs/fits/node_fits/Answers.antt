@@ -1,6 +1,5 @@
 -- `node_fits` meets its contract: the number node by its own test, and else what its callees ensure, joined.
 use borrow.Author.Tests.{eq-eqb, ne_eqb}
-use borrow.Author.Rules.{rules}
 use Rattle.image.specs.Rows.{node_fits}
 use Rattle.image.proofs.fits.node_fits.Goals as goal
 

@@ -1,6 +1,5 @@
 -- `slot_classed` meets its contract, by its test of the field.
 use mathlib.Core.Path.{sym, ◌∙◌}
-use borrow.Author.Rules.{rules}
 use Rattle.image.specs.Rows.{slot_classed}
 use Rattle.image.proofs.fits.slot_classed.Goals as goal
 

@@ -1,6 +1,5 @@
 -- `slot_fits` meets its contract: whether the field names a node gives its bound.
 use mathlib.Core.Path.{◌∙◌}
-use borrow.Author.Rules.{rules}
 use Rattle.image.specs.Rows.{slot_fits}
 use Rattle.image.proofs.fits.slot_fits.Goals as goal
 

@@ -2,7 +2,6 @@
 use mathlib.Core.Path.{ap}
 use Prim.Native.Nat.{◌/◌, ◌%◌}
 use lib.Dec.{eqb}
-use borrow.Author.Rules.{rules}
 use Rattle.image.specs.Layout.{is_choice}
 use Rattle.image.proofs.kinds.is_choice.Goals as goal
 

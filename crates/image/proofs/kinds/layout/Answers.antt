@@ -1,7 +1,6 @@
 -- `layout` meets its contract: the table of src/kinds.rt is that of specs/Layout.antt.
 use mathlib.Core.Path.{refl, sym}
 use lib.ListN.{get_or-eq_default}
-use borrow.Author.Rules.{rules}
 use Rattle.image.specs.Layout.{kinds, layout}
 use Rattle.image.proofs.kinds.layout.Goals as goal
 

@@ -1,9 +1,7 @@
 -- `count_names` meets its contract: after n nodes each counter has the names that they give its node.
 use mathlib.Core.Path.{◌≡◌, refl, ap, ◌∙◌}
-use Prim.Native.Nat.{ℕ, ◌-◌, ◌≤◌}
 use native.Mathlib.Omega.{arith}
 use native.Mathlib.Numerals.{add-one}
-use lib.ListN.{length, get_or}
 use Rattle.image.specs.Records.{node}
 use Rattle.image.specs.Rows.{names}
 use Rattle.image.specs.Inner.Lower.{Lower}

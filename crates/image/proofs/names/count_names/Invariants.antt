@@ -1,14 +1,8 @@
 -- `count_names` meets its contract: after n nodes each counter has the names that they give its node.
-use mathlib.Core.Path.{◌≡◌, refl, ap, ◌∙◌}
+use mathlib.Core.Path.{◌≡◌}
 use Prim.Native.Nat.{ℕ, ◌-◌, ◌≤◌}
-use native.Mathlib.Omega.{arith}
-use native.Mathlib.Numerals.{add-one}
 use lib.ListN.{length, get_or}
-use Rattle.image.specs.Records.{node}
 use Rattle.image.specs.Rows.{names}
-use Rattle.image.specs.Inner.Lower.{Lower}
-use Rattle.image.proofs.Theorem.Lower.{lower, lower_more}
-use Rattle.image.proofs.Counting.{names_le}
 use Rattle.image.proofs.names.count_names.Given as goal
 
 abbrev pub invariant-loop-n : goal.invariant-loop-n

@@ -1,7 +1,6 @@
 -- `count_node` meets its contract: its three fields are counted one after the other, and each adds at most one name.
 use Prim.Native.Nat.{◌/◌, ◌%◌}
 use native.Mathlib.Omega.{arith}
-use borrow.Author.Rules.{rules}
 use Rattle.image.specs.Rows.{node_names}
 use Rattle.image.proofs.Counting.{slot_names_le}
 use Rattle.image.proofs.names.count_node.Goals as goal

@@ -4,7 +4,6 @@ use mathlib.Core.Bool.{true}
 use Prim.Native.Nat.{◌≤◌, ◌<◌}
 use native.Mathlib.Omega.{arith}
 use lib.ListN.{length, get_or}
-use borrow.Author.Rules.{rules}
 use Rattle.image.specs.Layout.{names_node}
 use Rattle.image.proofs.Counting.{counted, slot_names_none}
 use Rattle.image.proofs.names.count_slot.Lts as lts

@@ -5,7 +5,6 @@ use Prim.Native.Nat.{ℕ}
 use native.Mathlib.Omega.{arith}
 use lib.Dec.{eqb}
 use lib.ListN.{get_or}
-use borrow.Author.Rules.{rules}
 use Rattle.image.specs.Rows.{named_wrong}
 use Rattle.image.proofs.Theorem.Lowest.{lowest_same}
 use Rattle.image.proofs.Counting.{none_yet}

@@ -1,11 +1,9 @@
 -- `lowest_wrong` meets its contract: each counter that the loop has passed is 1.
 use mathlib.Core.Bool.{not}
 use Prim.Native.Nat.{◌-◌}
-use native.Mathlib.Omega.{arith}
 use lib.Dec.{eqb}
 use lib.ListN.{get_or}
-use borrow.Author.Tests.{eq-eqb, ne_eqb}
-use Rattle.image.proofs.Searches.{Passed, begins, goes_on, finds, ends}
+use Rattle.image.proofs.Searches.{Passed}
 use Rattle.image.proofs.names.lowest_wrong.Given as goal
 
 abbrev pub invariant-loop-k : goal.invariant-loop-k

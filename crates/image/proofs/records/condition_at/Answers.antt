@@ -1,6 +1,5 @@
 -- `condition_at` meets its contract: the fields of the number that the four bytes of record k make.
 use mathlib.Core.Path.{ap, ◌∙◌}
-use borrow.Author.Rules.{rules}
 use Rattle.image.specs.Records.{condition_fields, condition_record}
 use Rattle.image.proofs.records.condition_at.Goals as goal
 

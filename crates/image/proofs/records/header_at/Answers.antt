@@ -1,6 +1,5 @@
 -- `header_at` meets its contract: the fields of the number that the first eight bytes make.
 use mathlib.Core.Path.{ap, ◌∙◌}
-use borrow.Author.Rules.{rules}
 use Rattle.image.specs.Records.{header_fields, header}
 use Rattle.image.proofs.records.header_at.Goals as goal
 

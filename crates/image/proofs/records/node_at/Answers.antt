@@ -1,6 +1,5 @@
 -- `node_at` meets its contract: the fields of the number that the eight bytes of node n make, from where the nodes begin.
 use mathlib.Core.Path.{ap, ◌∙◌}
-use borrow.Author.Rules.{rules}
 use Rattle.image.specs.Records.{node_fields, nodes_from, node}
 use Rattle.image.proofs.records.node_at.Goals as goal
 

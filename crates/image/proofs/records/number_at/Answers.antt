@@ -1,6 +1,6 @@
 -- `number_at` meets its contract: after i bytes `v` is the number that they make, and fewer than eight bytes leave room for one more.
-use mathlib.Core.Path.{◌≡◌, refl, ap, ◌∙◌}
-use Prim.Native.Nat.{◌<◌, ◌≤◌, ◌^◌, ◌+◌, ◌-◌}
+use mathlib.Core.Path.{refl, ap, ◌∙◌}
+use Prim.Native.Nat.{◌<◌, ◌^◌, ◌+◌}
 use native.Mathlib.Omega.{arith}
 use native.Mathlib.Numerals.{add-one}
 use native.Mathlib.Nat.{pow-le-pow_right}

@@ -1,11 +1,7 @@
 -- `number_at` meets its contract: after i bytes `v` is the number that they make, and fewer than eight bytes leave room for one more.
-use mathlib.Core.Path.{◌≡◌, refl, ap, ◌∙◌}
-use Prim.Native.Nat.{◌<◌, ◌≤◌, ◌^◌, ◌+◌, ◌-◌}
-use native.Mathlib.Omega.{arith}
-use native.Mathlib.Numerals.{add-one}
-use native.Mathlib.Nat.{pow-le-pow_right}
+use mathlib.Core.Path.{◌≡◌}
+use Prim.Native.Nat.{◌≤◌, ◌-◌}
 use Rattle.image.specs.Bytes.{number_at}
-use Rattle.image.proofs.Numbers.{number_lt}
 use Rattle.image.proofs.records.number_at.Given as goal
 
 abbrev pub invariant-loop-i : goal.invariant-loop-i

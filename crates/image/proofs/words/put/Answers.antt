@@ -1,10 +1,9 @@
 -- `put` meets its contract. The loop's invariant: the i bytes that are left, stored in front of those stored already, make all.
 use mathlib.Core.Path.{◌≡◌, refl, ◌∙◌, ap}
-use Prim.Native.Nat.{◌-◌, ◌≤◌}
+use Prim.Native.Nat.{◌-◌}
 use native.Mathlib.Omega.{arith}
-use lib.ListN.{length, length-set}
+use lib.ListN.{length-set}
 use lib.Seq.{sets}
-use borrow.Author.Rules.{rules}
 use Rattle.image.specs.Term.{bytes_of}
 use Rattle.image.proofs.Stores.{last_first}
 use Rattle.image.proofs.words.put.Goals as goal

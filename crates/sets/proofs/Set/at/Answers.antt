@@ -1,7 +1,6 @@
 -- `Set::at` meets its contract: past the end of a table the place reads as 0.
 use mathlib.Core.Path.{sym}
 use lib.ListN.{get_or-eq_default}
-use borrow.Author.Rules.{rules}
 use Rattle.sets.proofs.Set.at.Goals as goal
 
 pub returns : goal.returns

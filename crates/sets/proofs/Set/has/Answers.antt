@@ -1,7 +1,6 @@
 -- `Set::has` meets its contract: a shift and a mask below 64, and no member from 64 on.
 use mathlib.Core.Path.{sym}
 use native.Mathlib.Omega.{arith}
-use borrow.Author.Rules.{rules}
 use Rattle.sets.proofs.Laws.{bit_past, bit_asked}
 use Rattle.sets.proofs.Set.has.Goals as goal
 

@@ -4,7 +4,6 @@ use mathlib.Core.Bool.{◌&&◌, not}
 use Prim.Native.Nat.{ℕ, ◌+◌, ◌*◌, ◌/◌, ◌-◌, ◌%◌, ◌^◌, ◌≤◌, ◌<◌}
 use native.Mathlib.Omega.{arith}
 use lib.Pow.{pow_mono}
-use borrow.Author.Rules.{rules}
 use Rattle.sets.specs.Member.{bit}
 use Rattle.sets.proofs.Laws.{bit_none, one_shl}
 use Rattle.sets.proofs.Options.{off, option_left, option_none}
