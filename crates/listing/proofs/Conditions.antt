@@ -20,8 +20,8 @@ use Rattle.written.specs.Lister.{listedᶜ}
 use Rattle.listing.specs.Inner.Spelling.{condition_spelling, DOT, plainly, stands, spell}
 use Rattle.listing.specs.Inner.Texts.{condition_text, named, condition_parts}
 use Rattle.listing.specs.Inner.Listing.{condition_asks, condition_reach, ConditionListing, ConditionSigning}
-use Rattle.listing.specs.Theorem.Signs.{condition_asked}
-use Rattle.listing.specs.Theorem.Image.{condition_spelled_at}
+use Rattle.listing.proofs.Theorem.Signs.{condition_asked}
+use Rattle.listing.proofs.Theorem.Image.{condition_spelled_at}
 use Rattle.listing.proofs.Signs.{alike}
 
 -- ---- the names that a sign asks for

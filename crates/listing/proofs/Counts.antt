@@ -21,7 +21,7 @@ use Rattle.image.proofs.Theorem.ConditionHeld.{left_below, right_below}
 use Rattle.image.proofs.Theorem.Listed.{by_test}
 use Rattle.written.specs.Count.{sizeᶜ}
 use Rattle.listing.specs.Inner.Counting.{capped, Sizing, node_records, field_records, Counting, Field}
-use Rattle.listing.specs.Theorem.Counted.{held, node_counted, named_size, condition_sized}
+use Rattle.listing.proofs.Theorem.Counted.{held, node_counted, named_size, condition_sized}
 
 -- ---- a table with one number more
 

@@ -4,3 +4,4 @@ pub mod Conditions
 pub mod Nodes
 pub mod Counts
 pub mod Whole
+pub mod Theorem

@@ -20,8 +20,8 @@ use Rattle.image.proofs.Theorem.Listed.{by_test}
 use Rattle.listing.specs.Inner.Spelling.{spelling, DOT, plainly, stands, spell}
 use Rattle.listing.specs.Inner.Texts.{node_text, all_short, field_text, node_parts, parts_at, condition_text}
 use Rattle.listing.specs.Inner.Listing.{asks, reach, Listing, Signing, ConditionListing}
-use Rattle.listing.specs.Theorem.Signs.{asked}
-use Rattle.listing.specs.Theorem.Image.{known, node_spelled}
+use Rattle.listing.proofs.Theorem.Signs.{asked}
+use Rattle.listing.proofs.Theorem.Image.{known, node_spelled}
 
 -- ---- the nodes that a sign asks for
 

@@ -12,7 +12,7 @@ use Rattle.image.proofs.Theorem.Listed.{by_test}
 use Rattle.text.specs.Inner.Puts.{Puts}
 use Rattle.text.proofs.Putting.{then, same}
 use Rattle.listing.specs.Inner.Spelling.{DOT, Parts, stands, spell}
-use Rattle.listing.specs.Theorem.Signs.{one_more, within}
+use Rattle.listing.proofs.Theorem.Signs.{one_more, within}
 
 module _ (p : Parts) (signs : Bytes) where
   pub begun : {at : ℕ} {out : List ℕ} → at ≤ length out → Puts (spell p (take 0 signs)) at out out at

@@ -25,7 +25,7 @@ use Rattle.listing.specs.Lists.{listing_of, text_rows, Lists}
 use Rattle.listing.specs.Inner.Texts.{node_text}
 use Rattle.listing.specs.Inner.Counting.{capped}
 use Rattle.listing.specs.Inner.Shaped.{Shaped}
-use Rattle.listing.specs.Theorem.Root.{root_text}
+use Rattle.listing.proofs.Theorem.Root.{root_text}
 
 -- a text that is put leaves a list as long as it was
 pub kept : {u out out' : List ℕ} {at end : ℕ} → Puts u at out out' end → length out' ≡ length out

@@ -1,4 +1,3 @@
 -- What the lister answers and writes.
 pub mod Lists
 pub mod Inner
-pub mod Theorem

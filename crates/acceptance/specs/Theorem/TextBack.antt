@@ -29,7 +29,7 @@ use Rattle.reading.specs.Reads.{ReadsText}
 use Rattle.listing.specs.declared.Listed.{Listed}
 use Rattle.listing.specs.declared.Listed.TheVariants.{Length, Refused}
 use Rattle.listing.specs.Lists.{listing_of, text_rows, list_rows, list_answer, Lists}
-use Rattle.listing.specs.Theorem.ReadBack.{was_accepted, few_records, found, reads_back}
+use Rattle.listing.proofs.Theorem.ReadBack.{was_accepted, few_records, found, reads_back}
 use Rattle.acceptance.specs.Theorem.TextRead.{taken, kept, is_read, wrote, image_is}
 
 -- an answer that is no refusal

@@ -1,13 +1,12 @@
 -- `report` meets its contract: what was written to the text's own space is handed over.
 use native.Mathlib.Omega.{arith}
-use borrow.Author.Rules.{rules}
 use Rattle.text.proofs.Putting.{front}
 use Rattle.lines.proofs.report.Goals as goal
 
 pub hand_over-requires : goal.hand_over-requires
 hand_over-requires c =
     let told = c.tell-n in
-    omega (arith, told.ensures.fits, told.ensures.next_is, told.auto.1.0)
+    omega (arith, told.ensures.fits, told.ensures.next_is, told.auto.out)
 
 pub returns : goal.returns
 returns c =

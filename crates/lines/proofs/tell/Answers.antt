@@ -5,7 +5,6 @@ use native.Mathlib.Nat.{pow-le-pow_right}
 use native.Mathlib.Omega.{arith}
 use lib.ListN.{length, take, drop, length-drop}
 use lib.Seq.{take_all}
-use borrow.Author.Rules.{rules}
 use borrow.Author.Tests.{lt-ltb, le-ltb}
 use Rattle.image.specs.declared.accept.Shape.{Shape}
 use Rattle.image.specs.Bytes.{Bytes}
@@ -18,16 +17,7 @@ use Rattle.image.proofs.Theorem.Checked.{good_accepted, good_shape}
 use Rattle.lines.specs.Text.{refusal_line, set_in, budget_in, report_rows, told, run_text, text}
 use Rattle.text.proofs.Putting.{same}
 use Rattle.lines.proofs.Telling.{tell_check}
-use Rattle.lines.proofs.tell.Lts as lts
-use Rattle.lines.proofs.tell.Reads as reads
-use Rattle.lines.proofs.tell.Tie as tie
 use Rattle.lines.proofs.tell.Goals as goal
-
-abbrev In-Good-2 : Type 0
-In-Good-2 = lts.After-shape tie.the-claims reads.Pre reads.Post
-
-abbrev Start : Type 0
-Start = lts.Start tie.the-claims reads.Pre reads.Post
 
 -- ---- test 16
 
@@ -47,26 +37,21 @@ long_enough input h =
 
 -- ---- where the image is good
 
-module _ (c : In-Good-2) where
-  abbrev start : Start
-  start = c.before.before.before.before.before.before.before
-
-  abbrev l : Bytes
-  l = taken start.args.input.now
-
-  abbrev shape : Shape
-  shape = c.in-Good.shape
-
-  answered : answer shape ≡ judge (check_rows l) (shape_of l)
-  answered = ap answer_of (sym c.in-Good.is) ∙ c.check.ensures
-
+module _ (l : Bytes) (shape : Shape) (answered : answer shape ≡ judge (check_rows l) (shape_of l)) where
   acc : Accepted l
-  acc = good_accepted l _ answered
+  acc = good_accepted l shape answered
 
   options_are : shape.options ≡ (header l).options
   unfolding shape_of
-  options_are = ap (λ (h : Shape). h.options) (good_shape l _ answered)
+  options_are = ap (λ (h : Shape). h.options) (good_shape l shape answered)
 
+  settings_few : settings l ≤ 64
+  unfolding settings
+  settings_few = pow-le-pow_right {n = 2} (omega arith) {i = (header l).options} {j = 6} acc.few_options
+
+  shifted : 1 * 2 ^ shape.options % 18446744073709551616 ≡ settings l
+  unfolding settings
+  shifted = ap (λ f. 1 * 2 ^ f % 18446744073709551616) options_are ∙ omega (arith, settings_few)
 
 pub returns-then-input-lt12 : goal.returns-then-input-lt12
 returns-then-input-lt12 c =
@@ -74,29 +59,29 @@ returns-then-input-lt12 c =
     same (sym (too_short input c.if-input-lt12.true)) c.put_refusal.ensures
 
 pub overflow_shl-n : goal.overflow_shl-n
-overflow_shl-n c = omega (arith, options_are c.before.before.before, (acc c.before.before.before).few_options)
+overflow_shl-n c =
+    let l = taken c.args.input.now in
+    let answered = ap answer_of (sym c.in-Good.is) ∙ c.check.ensures in
+    omega (arith, options_are l _ answered, (acc l _ answered).few_options)
 
 pub tell_image-requires : goal.tell_image-requires
-unfolding settings
 tell_image-requires c =
-    let few : 2 ^ (header (l c.before.before.before.before.before.before)).options ≤ 64 = pow-le-pow_right {n = 2} (omega arith) {i = (header (l c.before.before.before.before.before.before)).options} {j = 6} (acc c.before.before.before.before.before.before).few_options in
-    let n-is : 1 * 2 ^ (shape c.before.before.before.before.before.before).options % 18446744073709551616 ≡ 2 ^ (header (l c.before.before.before.before.before.before)).options = ap (λ f. 1 * 2 ^ f % 18446744073709551616) (options_are c.before.before.before.before.before.before) ∙ omega arith in
+    let l = taken c.args.input.now in
+    let answered = ap answer_of (sym c.in-Good.is) ∙ c.check.ensures in
+    let n_is = shifted l _ answered in
     record {
-      few = omega (arith, n-is, few);
-      settings_are = n-is;
-      fits = (start c.before.before.before.before.before.before).requires;
+      few = omega (arith, n_is, settings_few l _ answered);
+      settings_are = n_is;
+      fits = c.requires;
     }
 
 pub returns-in-Refused : goal.returns-in-Refused
 returns-in-Refused c =
     let input : Bytes = c.args.input.now in
-    let long : 12 ≤ length input = c.if-input-lt12.false in
-    let found = c.r-1.given in
-    let refuses = ap answer_of (sym found.1) ∙ c.check.ensures in
-    same (tell_check (taken input) (set_in input) (budget_in input) found.0.0 refuses ∙ sym (long_enough input long)) c.put_refusal-in-Refused.ensures
+    let refuses = ap answer_of (sym c.in-Refused.is) ∙ c.check.ensures in
+    same (tell_check (taken input) (set_in input) (budget_in input) _ refuses ∙ sym (long_enough input c.if-input-lt12.false)) c.put_refusal-in-Refused.ensures
 
 pub returns-in-Good : goal.returns-in-Good
 returns-in-Good c =
-    let input : Bytes = (start c.before.before.before.before.before.before.before.before.before).args.input.now in
-    let long : 12 ≤ length input = c.if-input-lt12.false in
-    same (ap₂ (run_text (l c.before.before.before.before.before.before.before.before.before)) c.set_in.ensures c.budget_in.ensures ∙ sym (long_enough input long)) c.tell_image.ensures
+    let input : Bytes = c.args.input.now in
+    same (ap₂ (run_text (taken input)) c.set_in.ensures c.budget_in.ensures ∙ sym (long_enough input c.if-input-lt12.false)) c.tell_image.ensures

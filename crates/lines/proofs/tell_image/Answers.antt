@@ -5,7 +5,6 @@ use Prim.Native.Nat.{ℕ, zero, suc, ◌-◌, ◌*◌, ◌≤◌}
 use native.Mathlib.Omega.{arith}
 use lib.IntN.{pos}
 use lib.ListN.{take, replicate}
-use borrow.Author.Rules.{rules}
 use Rattle.image.specs.Sets.{settings}
 use Rattle.shared.specs.Lent.{tally}
 use Rattle.lines.specs.Text.{zeros, blank}

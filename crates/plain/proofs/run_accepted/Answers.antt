@@ -24,10 +24,10 @@ module _ (l : List ℕ) {shape : Shape} (is_shape : shape ≡ shape_of l) where
   nodes_are = ap (λ (h : Shape). h.nodes) is_shape
 
 pub returns-then-budget-gt-LARGEST_BUDGET : goal.returns-then-budget-gt-LARGEST_BUDGET
-returns-then-budget-gt-LARGEST_BUDGET c = plainly.over_budget _ _ _ _ c.if-budget-gt-LARGEST_BUDGET.true
+returns-then-budget-gt-LARGEST_BUDGET c = plainly.over_budget _ _ _ _ (omega arith)
 
 pub returns-then-numbers-ne16 : goal.returns-then-numbers-ne16
-returns-then-numbers-ne16 c = plainly.wrong_length _ _ _ _ c.if-budget-gt-LARGEST_BUDGET.false c.if-numbers-ne16.true
+returns-then-numbers-ne16 c = plainly.wrong_length _ _ _ _ (omega arith) (omega arith)
 
 pub overflow_sub-shape : goal.overflow_sub-shape
 overflow_sub-shape c =
@@ -52,12 +52,12 @@ run-requires c =
         node_below = below;
         is_class = root_class c.args.image.now (header c.args.image.now).conditions last (c.requires.0.nodes_fit last below) (c.requires.0.nodes_classed last below)
             (omega (arith, nodes_are c.args.image.now c.requires.1, c.requires.0.some_node));
-        sixteen = c.if-numbers-ne16.false;
+        sixteen = omega arith;
       };
       proper = fresh_proper;
     }
 
 pub returns : goal.returns
 returns c =
-    plainly.ended _ c.args.image.now _ _ c.if-budget-gt-LARGEST_BUDGET.false c.if-numbers-ne16.false
+    plainly.ended _ c.args.image.now _ _ (omega arith) (omega arith)
     (nodes_are c.args.image.now c.requires.1) c.run.ensures

@@ -5,7 +5,6 @@ use Prim.Native.Nat.{ℕ, ◌+◌, ◌≤◌, ◌<◌}
 use native.Mathlib.Omega.{arith}
 use lib.ListN.{length, take, drop}
 use lib.Seq.{sets-eq, length-take-le}
-use borrow.Author.Rules.{rules}
 use borrow.Author.Tests.{lt-ltb, le-ltb}
 use Rattle.lines.specs.declared.answer.Report.TheVariants.{Text, Short}
 use Rattle.text.specs.Inner.Puts.{Puts}
@@ -31,19 +30,18 @@ module _ (text out : List ℕ) where
         out_is = rw passes (p.out_is ∙ sets-eq text out 0 (omega arith) ∙ ap (λ k. text ++ drop k out) from);
       }
 
-
 pub returns-then-out-n : goal.returns-then-out-n
 returns-then-out-n c =
     let args = c.args in
-    short (take args.n args.text.now) args.out-1.now (length-take-le args.n args.text.now c.requires) c.if-out-n.true
+    short (take args.n args.text.now) args.out.now (length-take-le args.n args.text.now c.requires) c.if-out-n.true
 
 pub slice_bounds-put-end : goal.slice_bounds-put-end
-slice_bounds-put-end c = sym (length-take-le c.before.before.before.before.before.args.n c.before.before.before.before.before.args.text.now c.before.before.before.before.before.requires)
+slice_bounds-put-end c = sym (length-take-le c.args.n c.args.text.now c.requires)
 
 pub put-end-requires : goal.put-end-requires
-put-end-requires c = omega (arith, length-take-le c.before.before.before.before.before.args.n c.before.before.before.before.before.args.text.now c.before.before.before.before.before.requires, c.if1.false)
+put-end-requires c = omega (arith, length-take-le c.args.n c.args.text.now c.requires, c.if-out-n.false)
 
 pub returns : goal.returns
 returns c =
-    let args = c.before.before.before.before.before.before.before.before.args in
-    stored (take args.n args.text.now) args.out-1.now (omega (arith, length-take-le args.n args.text.now c.before.before.before.before.before.before.before.before.requires, c.if1.false)) c.put-end.ensures
+    let args = c.args in
+    stored (take args.n args.text.now) args.out.now (omega (arith, length-take-le args.n args.text.now c.requires, c.if-out-n.false)) c.put-end.ensures

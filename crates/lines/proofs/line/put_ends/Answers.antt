@@ -3,7 +3,6 @@ use mathlib.Core.Path.{ap₂}
 use mathlib.Core.List.{◌++◌}
 use Prim.Native.Nat.{ℕ}
 use native.Mathlib.Omega.{arith}
-use borrow.Author.Rules.{rules}
 use Rattle.lines.specs.Words.{visits_word, faults_word, out_word, field}
 use Rattle.lines.specs.Text.{last_line}
 use Rattle.text.proofs.Putting.{then, same}
@@ -28,7 +27,7 @@ put_field-second-requires c =
       field_length faults_word faults 32,
       ten faults (omega arith),
       first.ensures.next_is,
-      first.auto.0,
+      first.auto.out,
     )
 
 pub put_field-requires : goal.put_field-requires
@@ -48,9 +47,9 @@ put_field-requires c =
       field_length out_word outs 10,
       ten outs (omega arith),
       first.ensures.next_is,
-      first.auto.0,
+      first.auto.out,
       second.ensures.next_is,
-      second.auto.0,
+      second.auto.out,
     )
 
 pub returns : goal.returns

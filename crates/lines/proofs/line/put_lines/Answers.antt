@@ -1,6 +1,6 @@
 -- `put_lines` meets its contract: before each turn the lines of the first s settings are written, and none is longer than 32 bytes.
 use mathlib.Core.Path.{◌≡◌, refl, ◌∙◌, ap}
-use Prim.Native.Nat.{ℕ, suc, ◌+◌, ◌-◌, ◌*◌, ◌^◌, ◌≤◌, ◌<◌}
+use Prim.Native.Nat.{ℕ, suc, ◌+◌, ◌^◌, ◌≤◌, ◌<◌}
 use native.Mathlib.Omega.{arith}
 use lib.IntN.{pos}
 use lib.ListN.{length, get_or}
@@ -9,7 +9,6 @@ use mir.Val.{SFits, to_z, of_z}
 use mir.Facts.{to_z-of_z}
 use borrow.Author.Rules.{rules}
 use Rattle.shared.specs.Lent.{Tally, tally, progress}
-use Rattle.text.specs.Inner.Puts.{Puts}
 use Rattle.lines.specs.Inner.Telling.{tallied}
 use Rattle.lines.specs.Text.{line}
 use Rattle.text.proofs.Putting.{then, same}
@@ -27,7 +26,6 @@ module _ (T : Tally) (s : ℕ) where
   unfolding progress
   long h fits few = line_length s (progress T s) h fits few
 
-
 pub loop-s-init : goal.loop-s-init
 unfolding tallied
 loop-s-init c = (omega arith, omega arith, refl, record { fits = omega arith; next_is = refl; out_is = refl })
@@ -43,12 +41,12 @@ loop-s-preserved c =
     let s : ℕ = c.loop-s.s in
     let T : Tally = tally c.args.outcomes.now c.args.codes.now c.args.steps.now in
     let put = c.put_line-at in
-    let fits : SFits w32 (get_or T.codes s (pos 0)) = record { sfits = c.code-1.given } in
+    let fits : SFits w32 (get_or T.codes s (pos 0)) = search rules in
     let next : s + 1 ≡ suc s = omega arith in
     let this = same (as_read T s fits) put.ensures in (
       omega arith,
-      omega (arith, this.next_is, long T s (omega (arith, c.requires.few)) fits (c.shared_slice_known-in-loop-s-2-1.given s).fits),
-      put.auto.0 ∙ c.loop-s.invariant.2,
+      omega (arith, this.next_is, long T s (omega (arith, c.requires.few)) fits (c.type_inv.steps s).fits),
+      put.auto.out ∙ c.loop-s.invariant.2,
       rw next (then c.loop-s.invariant.3 this),
     )
 
@@ -56,7 +54,8 @@ pub returns : goal.returns
 returns c =
     let loop = c.loop-s in
     let args = c.args in
-    let all : loop.s ≡ length args.outcomes.now = omega arith in (
-      same (ap (λ n. tallied n (tally args.outcomes.now args.codes.now args.steps.now)) all) loop.invariant.3,
-      omega (arith, loop.invariant.1, c.requires.few),
-    )
+    let all : loop.s ≡ length args.outcomes.now = omega arith in
+    record {
+      puts = same (ap (λ n. tallied n (tally args.outcomes.now args.codes.now args.steps.now)) all) loop.invariant.3;
+      upper_bound = omega (arith, loop.invariant.1, c.requires.few);
+    }

@@ -1,19 +1,10 @@
 -- `put_lines` meets its contract: before each turn the lines of the first s settings are written, and none is longer than 32 bytes.
-use mathlib.Core.Path.{◌≡◌, refl, ◌∙◌, ap}
-use Prim.Native.Nat.{ℕ, suc, ◌+◌, ◌-◌, ◌*◌, ◌^◌, ◌≤◌, ◌<◌}
-use native.Mathlib.Omega.{arith}
-use lib.IntN.{pos}
-use lib.ListN.{length, get_or}
-use mir.Syntax.{w32}
-use mir.Val.{SFits, to_z, of_z}
-use mir.Facts.{to_z-of_z}
-use borrow.Author.Rules.{rules}
-use Rattle.shared.specs.Lent.{Tally, tally, progress}
+use mathlib.Core.Path.{◌≡◌}
+use Prim.Native.Nat.{◌-◌, ◌*◌, ◌≤◌}
+use lib.ListN.{length}
+use Rattle.shared.specs.Lent.{tally}
 use Rattle.text.specs.Inner.Puts.{Puts}
 use Rattle.lines.specs.Inner.Telling.{tallied}
-use Rattle.lines.specs.Text.{line}
-use Rattle.text.proofs.Putting.{then, same}
-use Rattle.lines.specs.Theorem.Lengths.{line_length}
 use Rattle.lines.proofs.line.put_lines.Given as goal
 
 abbrev pub invariant-loop-s : goal.invariant-loop-s

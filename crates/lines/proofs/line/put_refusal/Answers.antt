@@ -2,7 +2,6 @@
 use mathlib.Core.Path.{ap₂}
 use mathlib.Core.List.{◌++◌}
 use native.Mathlib.Omega.{arith}
-use borrow.Author.Rules.{rules}
 use Rattle.lines.specs.Words.{refused_word, at_word, field}
 use Rattle.lines.specs.Text.{refusal_line}
 use Rattle.text.proofs.Putting.{then, same}
@@ -19,7 +18,7 @@ put_field-requires c =
     let n = c.number.result in
     let first = c.put_field-first in
     let p = c.place.result in
-    omega (arith, c.requires, first.ensures.next_is, first.auto.0, field_length refused_word n 32, ten n (omega arith), field_length at_word p 10, twenty p)
+    omega (arith, c.requires, first.ensures.next_is, first.auto.out, field_length refused_word n 32, ten n (omega arith), field_length at_word p 10, twenty p)
 
 pub returns : goal.returns
 unfolding refusal_line

@@ -2,26 +2,26 @@
 use mathlib.Core.Path.{◌≡◌, refl, sym, ap}
 use mathlib.Core.List.{[], ◌++◌}
 use Prim.Native.Nat.{ℕ, zero, suc}
-use borrow.Author.Rules.{rules}
+use native.Mathlib.Omega.{arith}
 use Rattle.lines.specs.Words.{space, outcome_words, word}
 use Rattle.text.proofs.Putting.{same}
 use Rattle.lines.proofs.line.put_word.Goals as goal
 
 pub returns-in-0 : goal.returns-in-0
 unfolding word outcome_words
-returns-in-0 c = same (ap (λ n. space ++ (word n ++ space)) (sym c.in-0.keys1)) c.put.ensures
+returns-in-0 c = same (ap (λ n. space ++ (word n ++ space)) (sym c.in-0.is)) c.put.ensures
 
 pub returns-in-1 : goal.returns-in-1
 unfolding word outcome_words
-returns-in-1 c = same (ap (λ n. space ++ (word n ++ space)) (sym c.in-1.keys2)) c.put-in-1.ensures
+returns-in-1 c = same (ap (λ n. space ++ (word n ++ space)) (sym c.in-1.is)) c.put-in-1.ensures
 
 pub returns-in-2 : goal.returns-in-2
 unfolding word outcome_words
-returns-in-2 c = same (ap (λ n. space ++ (word n ++ space)) (sym c.in-2.keys3)) c.put-in-2.ensures
+returns-in-2 c = same (ap (λ n. space ++ (word n ++ space)) (sym c.in-2.is)) c.put-in-2.ensures
 
 pub returns-in-3 : goal.returns-in-3
 unfolding word outcome_words
-returns-in-3 c = same (ap (λ n. space ++ (word n ++ space)) (sym c.in-3.keys4)) c.put-in-3.ensures
+returns-in-3 c = same (ap (λ n. space ++ (word n ++ space)) (sym c.in-3.is)) c.put-in-3.ensures
 
 -- no other number has a word
 wordless : (n : ℕ) → (n ≡ 0 → ⊥) → (n ≡ 1 → ⊥) → (n ≡ 2 → ⊥) → (n ≡ 3 → ⊥) → word n ≡ []
@@ -34,7 +34,5 @@ wordless (suc (suc (suc (suc n)))) a b c d = refl
 
 pub returns-in_default : goal.returns-in_default
 returns-in_default c =
-    let outcome : ℕ = c.args.outcome in
-    let rest = c.in_default.rest in
-    let none : word outcome ≡ [] = wordless outcome rest.0.0.0.1 rest.0.0.1 rest.0.1 rest.1 in
+    let none : word c.args.outcome ≡ [] = wordless c.args.outcome (λ e. omega arith) (λ e. omega arith) (λ e. omega arith) (λ e. omega arith) in
     same (ap (λ w. space ++ (w ++ space)) (sym none)) c.put-in_default.ensures

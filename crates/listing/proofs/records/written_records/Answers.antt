@@ -2,7 +2,7 @@
 use mathlib.Core.Path.{ap, ◌∙◌}
 use Prim.Native.Nat.{◌-◌}
 use Rattle.listing.specs.Inner.Counting.{capped, node_records}
-use Rattle.listing.specs.Theorem.Root.{root_records}
+use Rattle.listing.proofs.Theorem.Root.{root_records}
 use Rattle.listing.proofs.records.written_records.Goals as goal
 
 pub condition_sizes-sizes-requires : goal.condition_sizes-sizes-requires

@@ -11,7 +11,7 @@ use Rattle.image.specs.Tree.{Read}
 use Rattle.image.proofs.Theorem.Held.{Child}
 use Rattle.listing.specs.Inner.Texts.{still_short, all_short}
 use Rattle.listing.specs.Inner.Listing.{Good, AskingField, AskingAll}
-use Rattle.listing.specs.Theorem.Image.{in_a, in_b, in_c}
+use Rattle.listing.proofs.Theorem.Image.{in_a, in_b, in_c}
 use Rattle.listing.proofs.short.all_short.Goals as goal
 
 asking : {l : List ℕ} {conditions n slot value : ℕ} → Good l conditions → n < (header l).nodes → (names_node slot ≡ true → Child l n slot value)

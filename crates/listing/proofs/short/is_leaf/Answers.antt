@@ -1,7 +1,7 @@
 -- `is_leaf` meets its contract: of the kinds of arithmetic only these two are below that of sums.
 use mathlib.Core.Path.{sym, ap, ◌∙◌}
 use lib.Dec.{ltb}
-use Rattle.listing.specs.Theorem.Short.{short_part}
+use Rattle.listing.proofs.Theorem.Short.{short_part}
 use Rattle.listing.proofs.short.is_leaf.Goals as goal
 
 pub returns : goal.returns

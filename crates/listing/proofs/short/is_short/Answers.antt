@@ -9,7 +9,7 @@ use Rattle.image.specs.Tree.{read}
 use Rattle.image.proofs.Theorem.Held.{Child}
 use Rattle.written.specs.Lister.{shortᵃ}
 use Rattle.listing.specs.Inner.Listing.{Asking}
-use Rattle.listing.specs.Theorem.Short.{long, skip_short, assign_child, throw_child, assign_short, throw_short}
+use Rattle.listing.proofs.Theorem.Short.{long, skip_short, assign_child, throw_child, assign_short, throw_short}
 use Rattle.listing.proofs.short.is_short.Goals as goal
 
 -- what it holds, of a node as it was read

@@ -1,7 +1,7 @@
 -- `condition_sign` meets its contract: the table of src/spelling.rt is that of specs/Inner/Spelling.antt.
 use mathlib.Core.Path.{sym}
 use Rattle.listing.specs.Inner.Spelling.{condition_spellings}
-use Rattle.listing.specs.Theorem.Signs.{condition_in_row, no_condition_row}
+use Rattle.listing.proofs.Theorem.Signs.{condition_in_row, no_condition_row}
 use Rattle.listing.proofs.spelling.condition_sign.Goals as goal
 
 pub returns-then-row-lt6 : goal.returns-then-row-lt6

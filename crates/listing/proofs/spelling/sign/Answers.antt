@@ -1,7 +1,7 @@
 -- `sign` meets its contract: the table of src/spelling.rt is that of specs/Inner/Spelling.antt.
 use mathlib.Core.Path.{sym}
 use Rattle.listing.specs.Inner.Spelling.{spellings}
-use Rattle.listing.specs.Theorem.Signs.{in_row, no_row}
+use Rattle.listing.proofs.Theorem.Signs.{in_row, no_row}
 use Rattle.listing.proofs.spelling.sign.Goals as goal
 
 pub returns-then-row-lt24 : goal.returns-then-row-lt24

@@ -8,7 +8,7 @@ use Rattle.listing.specs.Inner.Spelling.{condition_spelling, spell, stands}
 use Rattle.listing.specs.Inner.Texts.{condition_parts}
 use native.Mathlib.Omega.{arith}
 use Rattle.text.proofs.Putting.{same}
-use Rattle.listing.specs.Theorem.Signs.{condition_whole}
+use Rattle.listing.proofs.Theorem.Signs.{condition_whole}
 use Rattle.listing.proofs.Signs.{begun, goes_on, ends, room}
 use Rattle.imp.specs.Numbers.{signed32}
 use Rattle.listing.proofs.Conditions as Conditions

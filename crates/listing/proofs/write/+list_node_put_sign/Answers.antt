@@ -7,7 +7,7 @@ use Rattle.listing.specs.Inner.Spelling.{spelling, spell, stands}
 use Rattle.listing.specs.Inner.Texts.{parts_at}
 use native.Mathlib.Omega.{arith}
 use Rattle.text.proofs.Putting.{same}
-use Rattle.listing.specs.Theorem.Signs.{whole}
+use Rattle.listing.proofs.Theorem.Signs.{whole}
 use Rattle.listing.proofs.Signs.{begun, goes_on, ends, room}
 use Rattle.listing.proofs.Nodes as Nodes
 use Rattle.listing.proofs.write.+list_node_put_sign.Goals as goal

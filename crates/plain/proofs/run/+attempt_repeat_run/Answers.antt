@@ -37,7 +37,7 @@ attempt-run-requires t c =
 pub attempt-returns : goal.attempt-returns
 attempt-returns t c =
     let a = c.args in
-    arrives (handled_by a.node.variable (does a.budget a.s a.image.now a.node.b) c.run-r.ensures c.if-r-ne-FAULT.false c.take-q.ensures) c.run.ensures
+    arrives (handled_by a.node.variable (does a.budget a.s a.image.now a.node.b) c.run-r.ensures (omega arith) c.take-q.ensures) c.run.ensures
 
 -- ---- repeat
 

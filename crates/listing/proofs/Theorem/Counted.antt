@@ -21,7 +21,7 @@ use Rattle.image.proofs.Theorem.Reading.{condition_same, read_same}
 use Rattle.image.proofs.Theorem.Listed.{by_test}
 use Rattle.written.specs.Count.{sizeᶜ, recordsᵃ, recordsˢ}
 use Rattle.listing.specs.Inner.Counting.{records_of, node_records, field_records}
-use Rattle.listing.specs.Theorem.Image.{known, in_a, in_b, in_c}
+use Rattle.listing.proofs.Theorem.Image.{known, in_a, in_b, in_c}
 
 -- ---- nodes
 

@@ -25,7 +25,7 @@ use Rattle.written.specs.Word.{bytes}
 use Rattle.written.specs.Lister.{short, listedᶜ}
 use Rattle.listing.specs.Inner.Spelling.{spelling, condition_spelling, spell}
 use Rattle.listing.specs.Inner.Texts.{text_of, node_text, still_short, all_short, field_text, node_parts, parts_at, condition_text, named, condition_parts}
-use Rattle.listing.specs.Theorem.Spelled.{spelled, condition_spelled}
+use Rattle.listing.proofs.Theorem.Spelled.{spelled, condition_spelled}
 
 -- "All other kinds are refused"
 pub known : (C n : ℕ) (ν : Node) → node_fits C n ν ≡ true → layout ν.kind ≡ 0 → ⊥
