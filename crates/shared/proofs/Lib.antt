@@ -10,6 +10,7 @@ pub mod Beginning
 pub mod Acts
 pub mod Begun
 pub mod Keeping
+pub mod Left
 pub mod Whose
 pub mod Parting
 pub mod Statements

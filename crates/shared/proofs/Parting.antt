@@ -13,6 +13,7 @@ use Rattle.imp.specs.Shared.{Settings, Shared, Below}
 use Rattle.imp.proofs.Theorem.Sets.{and_true}
 use Rattle.image.specs.declared.records.Node.{Node}
 use Rattle.image.specs.Bytes.{Bytes}
+use Rattle.image.specs.Records.{node}
 use Rattle.image.specs.Inner.Ready.{Ready}
 use Rattle.image.specs.Sets.{settings}
 use Rattle.shared.specs.declared.plan.Plan.{Plan}
@@ -23,12 +24,18 @@ use Rattle.shared.specs.Inner.Asking.{AskingFor}
 use Rattle.shared.specs.Inner.Acting.{ActingFor}
 use Rattle.shared.specs.Inner.Sharing.{Sharing, Chooses, sharing, choosing, deciding, tested}
 use Rattle.shared.proofs.Keeping.{for_fewer}
+use Rattle.shared.proofs.Statements.{At}
 use Rattle.shared.proofs.Whose.{Answers, where_tested, where_rest, where_chosen, where_not_chosen}
 
 -- every image has a setting, and what is known of it is known of the image
 pub of_image : {l : Bytes} {plan : Plan} {sets : List ℕ} → Prepared l plan sets → Ready l plan.conditions sets 0
 unfolding settings
 of_image h = h.ready 0 (pow_pos _)
+
+-- the node that is run, as it was read
+pub node_of : {l : Bytes} {plan : Plan} {sets : List ℕ} {n rem visits : ℕ} {on : Set} {xs : List ℤ} {T : Tally} {ν : Node}
+    → OfClass l n 3 → Sharing l plan sets rem on visits xs T → ν ≡ node l n → At l n ν
+node_of known h is_node = record { accepted = (of_image h.prepared).accepted; node_below = known.node_below; is_node = is_node }
 
 module _ {l : Bytes} {plan : Plan} {sets : List ℕ} {rem : ℕ} {on : Set} {visits : ℕ} {xs : List ℤ} {T : Tally} (h : Sharing l plan sets rem on visits xs T) where
   pub for_some_of : {r : Set} (P : Settings) → ((s : ℕ) → bit r.bits s ≡ (bit on.bits s && P s)) → Sharing l plan sets rem r visits xs T

@@ -1,39 +1,32 @@
 -- The cycle of `run` and its kinds: each member meets its contract, given that the others do for smaller measures.
-use mathlib.Core.Path.{◌≡◌, refl, sym, ◌∙◌}
-use mathlib.Core.Bool.{Bool, true, not}
-use mathlib.Core.List.{List}
-use Prim.Native.Nat.{ℕ}
+use mathlib.Core.Path.{refl, sym, ◌∙◌}
 use native.Mathlib.Omega.{arith}
-use lib.Dec.{eqb}
-use lib.IntN.{ℤ}
 use borrow.Author.Tests.{not-true, not-false}
-use Rattle.sets.specs.declared.Set.{Set}
-use Rattle.sets.specs.Member.{bit, members}
-use Rattle.imp.specs.Shared.{Settings, any, Shared, begun, for}
-use Rattle.image.specs.declared.records.Node.{Node}
-use Rattle.image.specs.Bytes.{Bytes}
-use Rattle.image.specs.Records.{node}
+use Rattle.sets.specs.Member.{bit}
+use Rattle.imp.specs.Shared.{for}
 use Rattle.image.specs.Layout.{kinds, layout, names_node}
-use Rattle.shared.specs.declared.plan.Plan.{Plan}
-use Rattle.shared.specs.declared.turn.Turn.{Turn}
-use Rattle.shared.specs.Lent.{Tally, tally}
+use Rattle.shared.specs.Lent.{tally}
 use Rattle.shared.specs.Inner.Acting.{acting}
-use Rattle.shared.specs.Inner.Beginning.{BegunFor}
-use Rattle.shared.specs.Inner.Lent.{as_shared}
-use Rattle.shared.specs.Inner.Prepared.{OfClass}
-use Rattle.shared.specs.Inner.Sharing.{Sharing, sharing, following, deciding, turning, trying}
-use Rattle.shared.proofs.Begun.{does, does_nothing}
+use Rattle.shared.specs.Inner.Sharing.{sharing, following, deciding, turning, trying}
+use Rattle.shared.proofs.Begun.{does_nothing}
 use Rattle.shared.proofs.Keeping.{begun_on, no_more, after_run, then_shares, reaching, can_begin}
-use Rattle.shared.proofs.Loops.{from_start, turned, nearer, ending}
-use Rattle.shared.proofs.Made.{made_of, rem_of, sharing_for, acted_for_them, shares_for, begun_for}
-use Rattle.shared.proofs.Members.{any_members}
-use Rattle.shared.proofs.Parting.{of_image, for_some_of, can_ask, can_act, parts_chosen, parts_decided}
-use Rattle.shared.proofs.Statements.{At, Alone, below_a, below_b, below_c, chooses, follows, decides, repeats, attempts, expression, variable_there, choice_shares, skip_begins, sequence_begins, if_begins, while_begins, try_begins, act_begins}
+use Rattle.shared.proofs.Left.{any_left, does_all}
+use Rattle.shared.proofs.Loops.{starting, from_start, turned, nearer, ending}
+use Rattle.shared.proofs.Made.{made_of, rem_of, sharing_for, acting_for, acted_for_them, shares_for, begun_for}
+use Rattle.shared.proofs.Parting.{of_image, node_of, for_some_of, can_ask, can_act, parts_chosen, parts_decided}
+use Rattle.shared.proofs.Statements.{Alone, below_a, below_b, below_c, chooses, follows, decides, repeats, attempts, expression, variable_there, choice_shares, skip_begins, sequence_begins, if_begins, while_begins, try_begins, act_begins}
 use Rattle.shared.proofs.Tries.{after_act, tried}
 use Rattle.shared.proofs.Whose.{where_tested}
 use Rattle.shared.proofs.run.+attempt_both_choose_decide_follow_repeat_run.Goals as goal
 
 -- ---- `attempt` meets its contract: the body, the faults taken, the handler for exactly those.
+
+pub attempt-act_for-requires : goal.attempt-act_for-requires
+attempt-act_for-requires t c =
+    let pre = c.requires in
+    let caught = for_some_of (after_run pre.sharing _ _ c.run-visits.ensures) _ c.ask_for-yes.ensures in
+    acting_for (made_of c.after-own.ensures c.for_those.ensures) {T = tally _ _ _}
+    (can_act caught (λ other. absurd (other pre.attempts.is_try)) (λ other. pre.attempts.variable_below))
 
 pub attempt-run-requires : goal.attempt-run-requires
 attempt-run-requires t c =
@@ -88,6 +81,11 @@ decide-returns t c =
 
 -- ---- `repeat` meets its contract: each turn leaves what is still to do the same, and one less of the budget.
 
+pub repeat-loop-plan-init : goal.repeat-loop-plan-init
+repeat-loop-plan-init t c =
+    let a = c.args in
+    starting a.image.now a.plan a.sets.now a.node (rw c.for_those-now.ensures (for_some_of c.requires.sharing _ c.ask_for-yes.ensures))
+
 pub repeat-begin_for-left-requires : goal.repeat-begin_for-left-requires
 repeat-begin_for-left-requires t c =
     rw c.after.ensures (can_begin (after_run c.loop-plan.invariant.sharing_on _ _ c.run-visits.ensures))
@@ -127,26 +125,6 @@ repeat-returns t c =
 
 -- ---- `run` meets its contract: a choice is not begun; every other kind does its act for those who are left, or nothing where none is.
 
--- the node that is run
-node_of : {l : Bytes} {plan : Plan} {sets : List ℕ} {n rem visits : ℕ} {on : Set} {xs : List ℤ} {T : Tally} {ν : Node}
-    → OfClass l n 3 → Sharing l plan sets rem on visits xs T → ν ≡ node l n → At l n ν
-node_of known h is_node = record { accepted = (of_image h.prepared).accepted; node_below = known.node_below; is_node = is_node }
-
--- those who are left once the statement is begun
-module _ {l : Bytes} {plan : Plan} {sets : List ℕ} {rem visits : ℕ} {on : Set} {xs : List ℤ} {T T' : Tally} {left : Turn} (h : Sharing l plan sets rem on visits xs T)
-    (is_begun : BegunFor plan.settings plan.budget on rem visits T T' left) {r : Bool} (told : r ≡ not (eqb (members left.on.bits 64) 0)) where
-  any_is : any plan.settings (bit left.on.bits) ≡ r
-  any_is =
-      let live = begun_on h is_begun in
-      any_members plan.settings left.on.bits live.prepared.few live.below ∙ sym told
-
-  -- what it does for those who are left is the whole of it
-  does_all : (n : ℕ) (act : Settings → Shared → Shared) → r ≡ true
-      → ((S : Settings) (Σ : Shared) → sharing plan l n S Σ ≡ begun plan.settings plan.budget act S Σ)
-      → act (bit left.on.bits) (as_shared xs T' left.visits) ≡ sharing plan l n (bit on.bits) (as_shared xs T visits)
-  does_all n act some means =
-      does plan.settings plan.budget act _ (bit on.bits) (bit left.on.bits) _ _ means (is_begun.left_is xs) (is_begun.reaches xs) (any_is ∙ some)
-
 pub run-node_at-node-requires : goal.run-node_at-node-requires
 run-node_at-node-requires t c =
     let image = of_image c.requires.sharing.prepared in
@@ -171,7 +149,7 @@ pub run-returns-then-not-for_some : goal.run-returns-then-not-for_some
 run-returns-then-not-for_some t c =
     let plan = c.args.plan in
     let is_begun = c.begin_for-left.ensures in
-    let none = any_is c.requires.sharing is_begun c.for_some.ensures ∙ not-true _ c.if-not-for_some.true-raw in
+    let none = any_left c.requires.sharing is_begun c.for_some.ensures ∙ not-true _ c.if-not-for_some.true-raw in
     record {
       reaches = does_nothing plan.settings plan.budget _ _ (bit c.begin_for-left.result.on.bits) _ _ (is_begun.left_is _) (is_begun.reaches _) none;
       lent = (begun_on c.requires.sharing is_begun).lent;
