@@ -10,6 +10,6 @@ low32 (negsuc n) = 2 ^ 32 - suc (n % 2 ^ 32)
 unfoldable pub signed32 : ℕ → ℤ
 signed32 n = cond (nat_lt n (2 ^ 31)) (pos n) (negsuc (2 ^ 32 - suc n))
 
--- "A sum that leaves the range wraps modulo 2^32 into the signed range". The less of "less compares signed" is `lt_z` of lib.Signed
+-- "A sum that leaves the range wraps modulo 2^32 into the signed range". The less of "less compares signed" is the library's `int_lt`
 unfoldable pub wrap : ℤ → ℤ
 wrap z = signed32 (low32 z)
