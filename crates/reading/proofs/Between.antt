@@ -12,8 +12,7 @@ use Rattle.written.specs.Token.{nothing}
 use Rattle.written.specs.Word.{CATCH, WITH}
 use Rattle.written.specs.Machine.{variables, Stack, done, mark, want, Log, led, begin, plain, first, look, leads, counted, final}
 use Rattle.written.specs.Limits.{first_too_many}
-use Rattle.written.specs.Answer.{so_far, refused_17}
-use Rattle.written.proofs.Theorem.From.{from}
+use Rattle.written.specs.Answer.{so_far, refused_17, from}
 use Rattle.reading.specs.declared.cursor.Cursor.{Cursor}
 use Rattle.reading.specs.declared.lead.Lead.{Lead}
 use Rattle.reading.specs.declared.number.Number.{Number}

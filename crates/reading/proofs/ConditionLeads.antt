@@ -14,10 +14,9 @@ use Rattle.written.specs.Token.{Lexeme, record_of}
 use Rattle.written.specs.Word.{TRUE, FALSE, NOT, LEFT}
 use Rattle.written.specs.Machine.{conditions, Stack, done, want, Log, led, lexed, option_leads, leads, counted, look, begin, plain, first, final}
 use Rattle.written.specs.Limits.{first_too_many}
-use Rattle.written.specs.Answer.{so_far, refused_17}
+use Rattle.written.specs.Answer.{so_far, refused_17, from}
 use Rattle.written.specs.Count.{sizeᶜ}
 use Rattle.written.specs.Image.{wordsᶜ}
-use Rattle.written.proofs.Theorem.From.{from}
 use Rattle.reading.specs.declared.cursor.Cursor.{Cursor}
 use Rattle.reading.specs.declared.lead.Lead.{Lead}
 use Rattle.reading.specs.Inner.Way.{Live, Logged, Good}

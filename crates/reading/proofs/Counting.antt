@@ -11,8 +11,8 @@ use Rattle.image.specs.Bytes.{Bytes}
 use Rattle.written.specs.Byte.{is_digit}
 use Rattle.written.specs.Token.{nothing}
 use Rattle.written.specs.Machine.{counts, Stack, done, want, Log, bare, on_byte, digits, when, look, leads, counted, begin_class, plain, first, first_step, step}
-use Rattle.written.specs.Answer.{so_far}
-use Rattle.written.proofs.Theorem.From.{from, from_alike}
+use Rattle.written.specs.Answer.{so_far, from}
+use Rattle.written.proofs.Theorem.From.{from_alike}
 use Rattle.reading.specs.declared.cursor.Cursor.{Cursor}
 use Rattle.reading.specs.declared.number.Number.{Number}
 use Rattle.reading.specs.Inner.Way.{Live, Logged, Good}

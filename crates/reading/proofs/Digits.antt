@@ -14,8 +14,8 @@ use Rattle.written.specs.Byte.{is_space, is_digit, is_run}
 use Rattle.written.specs.Token.{Opens, Spot}
 use Rattle.written.specs.Machine.{Stack, Log, Begun, behind, plain, first, digits, when, between_by, between, digits_by, first_fits, first_step, low, step, final}
 use Rattle.written.specs.Limits.{NODES, RECORDS, first_too_many, runs_on}
-use Rattle.written.specs.Answer.{so_far, refused_17}
-use Rattle.written.proofs.Theorem.From.{from, from_number}
+use Rattle.written.specs.Answer.{so_far, refused_17, from}
+use Rattle.written.proofs.Theorem.From.{from_number}
 use Rattle.written.proofs.Theorem.Spacing.{head_is, tail_is}
 use Rattle.reading.specs.Inner.Way.{nodes_in, records_in}
 use Rattle.reading.specs.Inner.Spelling.{goes_on, more_digits, made}

@@ -11,8 +11,7 @@ use Rattle.image.specs.Bytes.{Bytes}
 use Rattle.written.specs.Byte.{is_wordy}
 use Rattle.written.specs.Machine.{Reading, Stack, done, Log, plain, between_by, between, step, final, go}
 use Rattle.written.specs.Limits.{NODES, RECORDS, first_too_many}
-use Rattle.written.specs.Answer.{so_far, last, reach, gives, refused_17, refused_18}
-use Rattle.written.proofs.Theorem.From.{from}
+use Rattle.written.specs.Answer.{so_far, last, reach, gives, refused_17, refused_18, from}
 use Rattle.reading.specs.declared.cursor.Cursor.{Cursor}
 use Rattle.reading.specs.Inner.Way.{nodes_in, records_in, Live, Logged, told, here, Good, Way}
 use Rattle.reading.specs.Inner.Between.{Passes}

@@ -16,8 +16,7 @@ use Rattle.written.specs.Token.{node, Spot}
 use Rattle.written.specs.Word.{THROW, TRY, CATCH, WITH}
 use Rattle.written.specs.Machine.{statements, arithmetics, variables, Stack, mark, want, Log, noted, begin, State, plain, fork, when, found, look, leads, forks, step, final}
 use Rattle.written.specs.Limits.{NODES, RECORDS, first_too_many, whole_in}
-use Rattle.written.specs.Answer.{so_far, refused_17}
-use Rattle.written.proofs.Theorem.From.{from}
+use Rattle.written.specs.Answer.{so_far, refused_17, from}
 use Rattle.reading.specs.declared.cursor.Cursor.{Cursor}
 use Rattle.reading.specs.Inner.Way.{nodes_in, records_in, Live, Logged, Good}
 use Rattle.reading.specs.Inner.Between.{Faces}

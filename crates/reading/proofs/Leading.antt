@@ -19,8 +19,8 @@ use Rattle.written.specs.Byte.{is_wordy}
 use Rattle.written.specs.Token.{Lexeme, node, nothing, Opens}
 use Rattle.written.specs.Machine.{Stack, Log, minus, noted, led, bare, lexed, begin, plain, first, step, final}
 use Rattle.written.specs.Limits.{first_too_many}
-use Rattle.written.specs.Answer.{so_far, refused_17}
-use Rattle.written.proofs.Theorem.From.{from, from_alike}
+use Rattle.written.specs.Answer.{so_far, refused_17, from}
+use Rattle.written.proofs.Theorem.From.{from_alike}
 use Rattle.reading.specs.declared.cursor.Cursor.{Cursor}
 use Rattle.reading.specs.declared.lead.Lead.{Lead}
 use Rattle.reading.specs.Inner.Way.{Live, Logged, Good, Way, Opened}

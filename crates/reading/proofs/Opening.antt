@@ -14,8 +14,8 @@ use Rattle.written.specs.Byte.{is_run}
 use Rattle.written.specs.Token.{Opens, Spot}
 use Rattle.written.specs.Machine.{Stack, Log, noted, plain, between_by, between, step, final}
 use Rattle.written.specs.Limits.{NODES, RECORDS, first_too_many, runs_on}
-use Rattle.written.specs.Answer.{so_far, refused_17, refused_18}
-use Rattle.written.proofs.Theorem.From.{from, from_over}
+use Rattle.written.specs.Answer.{so_far, refused_17, refused_18, from}
+use Rattle.written.proofs.Theorem.From.{from_over}
 use Rattle.written.proofs.Theorem.Now.{Now}
 use Rattle.reading.specs.declared.cursor.Cursor.{Cursor}
 use Rattle.reading.specs.Inner.Way.{node_of, record_in, nodes_in, records_in, Live, Logged, Good, Way, Opened}

@@ -15,8 +15,8 @@ use Rattle.written.specs.Token.{nothing, Spot}
 use Rattle.written.specs.Word.{RIGHT}
 use Rattle.written.specs.Machine.{Stack, done, mark, want, Log, plain, between_by, between, step, ended, final}
 use Rattle.written.specs.Limits.{first_too_many}
-use Rattle.written.specs.Answer.{so_far, refused_17}
-use Rattle.written.proofs.Theorem.From.{from, from_space}
+use Rattle.written.specs.Answer.{so_far, refused_17, from}
+use Rattle.written.proofs.Theorem.From.{from_space}
 use Rattle.written.proofs.Theorem.Spacing.{head_is, tail_is}
 use Rattle.reading.specs.declared.cursor.Cursor.{Cursor}
 use Rattle.reading.specs.Inner.Way.{Live, Good, Way, Opened}

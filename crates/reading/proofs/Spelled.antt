@@ -15,8 +15,7 @@ use Rattle.written.specs.Byte.{is_run, is_wordy}
 use Rattle.written.specs.Token.{Lexeme, Opens, Spot}
 use Rattle.written.specs.Machine.{Stack, Log, noted, lexed, begin, plain, first, digits, low, first_fits, final}
 use Rattle.written.specs.Limits.{NODES, RECORDS, first_too_many, whole_in}
-use Rattle.written.specs.Answer.{so_far, limited, Answer, refused_17}
-use Rattle.written.proofs.Theorem.From.{from}
+use Rattle.written.specs.Answer.{so_far, limited, Answer, refused_17, from}
 use Rattle.reading.specs.declared.cursor.Cursor.{Cursor}
 use Rattle.reading.specs.Inner.Way.{nodes_in, records_in, Live, Logged, Good, Way, Opened}
 use Rattle.reading.specs.Inner.Between.{Faces}

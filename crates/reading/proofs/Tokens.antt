@@ -15,8 +15,8 @@ use Rattle.written.specs.Byte.{is_space, is_wordy}
 use Rattle.imp.specs.Routine.{skip}
 use Rattle.written.specs.Machine.{Reading, Stack, done, Log, State, plain, when, begin, between_by, between, step, final, at_end, go}
 use Rattle.written.specs.Limits.{first_too_many}
-use Rattle.written.specs.Answer.{so_far, limited, within, refused_17, last, reach}
-use Rattle.written.proofs.Theorem.From.{from, from_step, from_stop}
+use Rattle.written.specs.Answer.{so_far, limited, within, refused_17, last, reach, from}
+use Rattle.written.proofs.Theorem.From.{from_step, from_stop}
 use Rattle.reading.specs.Inner.Spelling.{agree}
 
 -- any reading, where none matters

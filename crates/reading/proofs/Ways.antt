@@ -8,8 +8,7 @@ use lib.Dec.{eqb}
 use lib.ListN.{drop}
 use Rattle.image.specs.Bytes.{Bytes}
 use Rattle.written.specs.Machine.{Stack, Log, plain}
-use Rattle.written.specs.Answer.{Answer, refused_17, refused_18}
-use Rattle.written.proofs.Theorem.From.{from}
+use Rattle.written.specs.Answer.{Answer, refused_17, refused_18, from}
 use Rattle.reading.specs.declared.cursor.Cursor.{Cursor}
 use Rattle.reading.specs.Inner.Way.{Live, Logged, told, here, Good, Way}
 

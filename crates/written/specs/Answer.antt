@@ -3,7 +3,7 @@ use Rattle.std.specs.Prelude.{ℕ, suc, ◌+◌, Bool, true, false, ◌&&◌, Li
 use Rattle.std.proofs.Math.Option.{Option, none, some}
 use Rattle.image.specs.Bytes.{Bytes}
 use Rattle.written.specs.Token.{Spot}
-use Rattle.written.specs.Machine.{Result, behind, State, plain, fork, first, digits, step, start, Outcome, read, refused, outcome}
+use Rattle.written.specs.Machine.{Result, behind, State, plain, fork, first, digits, step, start, Outcome, read, refused, go, outcome}
 use Rattle.written.specs.Limits.{first_too_many, whole_in}
 
 -- the spots of the tokens that may have ended by now, the last first
@@ -51,3 +51,7 @@ limited (some m) text n a = by_whole (leb m.upto n && whole_in m text) m a
 -- "the earlier byte decides": a whole token that opens too much stands before the byte that fits nothing
 unfoldable pub answer : Bytes → Answer
 answer text = limited (first_too_many (reverse (so_far (last text start)))) text (reach text start) (within (outcome text))
+
+-- the answer to a text of which `at` bytes have led to q, with l still to come
+unfoldable pub from : Bytes → Bytes → State → ℕ → Answer
+from text l q at = limited (first_too_many (reverse (so_far (last l q)))) text (at + reach l q) (within (go l q at))

@@ -4,8 +4,7 @@ use Rattle.image.specs.Bytes.{Bytes}
 use Rattle.written.specs.Token.{Opens, nothing, node, record_of, Spot}
 use Rattle.written.specs.Machine.{Stack, Log, plain}
 use Rattle.written.specs.Limits.{NODES, RECORDS}
-use Rattle.written.specs.Answer.{Answer, refused_17, refused_18}
-use Rattle.written.proofs.Theorem.From.{from}
+use Rattle.written.specs.Answer.{Answer, refused_17, refused_18, from}
 use Rattle.reading.specs.declared.cursor.Cursor.{Cursor}
 
 -- how many nodes, and how many condition records, the tokens of a log have opened

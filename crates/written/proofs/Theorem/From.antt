@@ -8,14 +8,10 @@ use Rattle.written.specs.Byte.{is_space, is_digit, is_letter, is_wordy}
 use Rattle.written.specs.Token.{Spot}
 use Rattle.written.specs.Machine.{Stack, Log, Begun, behind, State, plain, digits, when, past_space, between_by, between, digits_by, step, final, start, carry, go, outcome}
 use Rattle.written.specs.Limits.{first_too_many, runs_on, whole_in}
-use Rattle.written.specs.Answer.{so_far, or_stay, last, or_none, reach, Answer, refused_17, refused_18, within, by_whole, limited, answer}
+use Rattle.written.specs.Answer.{so_far, or_stay, last, or_none, reach, Answer, refused_17, refused_18, within, by_whole, limited, answer, from}
 use Rattle.written.proofs.Theorem.Spacing.{is_on, and_both}
 use Rattle.written.proofs.Theorem.Now.{Now}
 use Rattle.written.proofs.Theorem.Answers.{noted_on}
-
--- the answer to a text of which `at` bytes have led to q, with l still to come
-unfoldable pub from : Bytes → Bytes → State → ℕ → Answer
-from text l q at = limited (first_too_many (reverse (so_far (last l q)))) text (at + reach l q) (within (go l q at))
 
 pub from_start : (text : Bytes) → answer text ≡ from text text start 0
 unfolding answer from outcome
