@@ -96,8 +96,8 @@ impl Set {
 
     // The n = 2^f settings of f options, "refused with 3 when F is above 6": what is left of all 64 when the upper ones are shifted out.
     pub fn full(f: u32) -> Full
-        ensures result_value { verdict_of result ≡ full_of f }
-        ensures by_index { (s : ℕ) → full_has result s ≡ (leb f 6 && ltb s (2 ^ f)) }
+        ensures verdict { verdict_of result ≡ full_of f }
+        ensures members { (s : ℕ) → full_has result s ≡ (leb f 6 && ltb s (2 ^ f)) }
     {
         if 6 < f {
             return Full::Refused;

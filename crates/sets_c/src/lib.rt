@@ -46,9 +46,9 @@ pub extern "C" fn sets_count(a: u64) -> u32
 // The full set of f options, and 0 exactly where it is refused: a full set is never empty.
 #[unsafe(no_mangle)]
 pub extern "C" fn sets_full(f: u32) -> u64
-    ensures value { result ≡ bits_of (full_of f) }
-    ensures result_value { eqb result 0 ≡ ltb 6 f }
-    ensures by_index { (s : ℕ) → bit result s ≡ (leb f 6 && ltb s (2 ^ f)) }
+    ensures bits { result ≡ bits_of (full_of f) }
+    ensures refused { eqb result 0 ≡ ltb 6 f }
+    ensures members { (s : ℕ) → bit result s ≡ (leb f 6 && ltb s (2 ^ f)) }
 {
     match Set::full(f) {
         Full::Of(all) => all.bits,

@@ -35,11 +35,11 @@ told f a verdict members =
 pub returns-in-Of : goal.returns-in-Of
 returns-in-Of c =
     let call = c.full in
-    let t = subst (Told c.args.f) c.in-Of.is (told _ call.result call.ensures.result_value call.ensures.by_index) in
-    record { value = t.0; result_value = t.1.0; by_index = t.1.1 }
+    let t = subst (Told c.args.f) c.in-Of.is (told _ call.result call.ensures.verdict call.ensures.members) in
+    record { bits = t.0; refused = t.1.0; members = t.1.1 }
 
 pub returns-in-Refused : goal.returns-in-Refused
 returns-in-Refused c =
     let call = c.full in
-    let t = subst (Told c.args.f) c.in-Refused.is (told _ call.result call.ensures.result_value call.ensures.by_index) in
-    record { value = t.0; result_value = t.1.0; by_index = t.1.1 }
+    let t = subst (Told c.args.f) c.in-Refused.is (told _ call.result call.ensures.verdict call.ensures.members) in
+    record { bits = t.0; refused = t.1.0; members = t.1.1 }

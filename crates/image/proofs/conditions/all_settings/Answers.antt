@@ -15,12 +15,12 @@ pub returns-in-Of : goal.returns-in-Of
 returns-in-Of c s =
     let call = c.full in
     let few = c.requires in
-    ap (λ a. full_has a s) (sym c.in-Of.is) ∙ call.ensures.by_index s ∙ rw (le-leb _ 6 few)
+    ap (λ a. full_has a s) (sym c.in-Of.is) ∙ call.ensures.members s ∙ rw (le-leb _ 6 few)
 
 pub returns-in-Refused : goal.returns-in-Refused
 unfolding full_of
 returns-in-Refused c =
     let call = c.full in
     let e : refused 3 0 ≡ judged (ltb 6 c.args.options) c.args.options =
-    ap verdict_of (sym c.in-Refused.is) ∙ call.ensures.result_value in
+    ap verdict_of (sym c.in-Refused.is) ∙ call.ensures.verdict in
     absurd (never _ (rw (le-ltb 6 _ c.requires) at e))

@@ -38,7 +38,7 @@ few c = omega arith
 
 pub returns-then-f-gt6 : goal.returns-then-f-gt6
 unfolding full_of
-returns-then-f-gt6 c = record { result_value = rw (lt-ltb _ _ (many c)); by_index = λ s. rw (lt-leb _ _ (many c)) }
+returns-then-f-gt6 c = record { verdict = rw (lt-ltb _ _ (many c)); members = λ s. rw (lt-leb _ _ (many c)) }
 
 pub overflow_sub-result : goal.overflow_sub-result
 overflow_sub-result c = omega (arith, settings c.args.f (few c), at_most c.args.f (few c))
@@ -52,6 +52,6 @@ returns c =
     let f = c.args.f in
     let h = few c in
     record {
-      result_value = rw (le-ltb 6 f h) (ap full_set (mask f h));
-      by_index = λ s. rw (le-leb f 6 h) (ap (λ (n : ℕ). bit n s) (mask f h) ∙ bit_ones (2 ^ f) s);
+      verdict = rw (le-ltb 6 f h) (ap full_set (mask f h));
+      members = λ s. rw (le-leb f 6 h) (ap (λ (n : ℕ). bit n s) (mask f h) ∙ bit_ones (2 ^ f) s);
     }
