@@ -4,7 +4,10 @@ use std::io;
 
 fn tell_compared<R: Print>(rt: &R, k: u64, c: Compared) -> io::Result<()> {
     let word = if c.holds { "holds" } else { "FAILS" };
-    println!(rt; "routine {k}: {} settings, {} visits, condition 3 {word}", c.settings, c.visits)
+    println!(rt;
+        "routine {k}: {} settings, {} visits, condition 3 {word}",
+        c.settings, c.visits
+    )
 }
 
 pub fn tell<R: Print>(rt: &R, k: u64, verdict: Verdict) -> io::Result<()> {

@@ -1,9 +1,7 @@
 -- `main` is safe and ends: each record takes the place on, and there are no more records than bytes.
 use mathlib.Core.Path.{◌≡◌}
 use Prim.Native.Nat.{◌-◌, ◌≤◌}
-use native.Mathlib.Omega.{arith}
 use lib.ListN.{length}
-use borrow.Author.Rules.{rules}
 use Rattle.acceptance.proofs.main.Given as goal
 
 abbrev pub invariant-loop-at : goal.invariant-loop-at

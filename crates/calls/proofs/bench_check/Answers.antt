@@ -1,6 +1,5 @@
 -- `bench_check` meets its contract: nothing where the answer space is wrong, else the reply of `checked`.
 use native.Mathlib.Omega.{arith}
-use borrow.Author.Rules.{rules}
 use Rattle.calls.proofs.Answering.{refuses, answers}
 use Rattle.calls.proofs.bench_check.Goals as goal
 

@@ -1,6 +1,5 @@
 -- `bench_condition_has` meets its contract: nothing where the answer space is wrong, else the reply of `member`.
 use native.Mathlib.Omega.{arith}
-use borrow.Author.Rules.{rules}
 use Rattle.calls.proofs.Answering.{refuses, answers}
 use Rattle.calls.proofs.bench_condition_has.Goals as goal
 

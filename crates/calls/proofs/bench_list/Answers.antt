@@ -1,17 +1,22 @@
 -- `bench_list` meets its contract: nothing where the answer space is wrong, else the reply of `listed`.
 use native.Mathlib.Omega.{arith}
-use borrow.Author.Rules.{rules}
 use Rattle.calls.proofs.Answering.{refuses, keeps, answers, leaves}
 use Rattle.calls.proofs.bench_list.Goals as goal
 
 pub returns-then-answer-ne-ANSWER_LENGTH : goal.returns-then-answer-ne-ANSWER_LENGTH
 returns-then-answer-ne-ANSWER_LENGTH c =
     let space = c.args.answer.now in
-    (refuses space _ (λ e. omega (arith, e, c.if-answer-ne-ANSWER_LENGTH.true)), keeps space _ _ (λ e. omega (arith, e, c.if-answer-ne-ANSWER_LENGTH.true)))
+    record {
+      answers = refuses space _ (λ e. omega (arith, e, c.if-answer-ne-ANSWER_LENGTH.true));
+      out_after = keeps space _ _ (λ e. omega (arith, e, c.if-answer-ne-ANSWER_LENGTH.true));
+    }
 
 pub returns : goal.returns
 returns c =
     let space = c.args.answer.now in
     let right = c.if-answer-ne-ANSWER_LENGTH.false in
     let call = c.listed-r.ensures in
-    (answers space _ _ _ right c.fill.ensures call.0, leaves space _ _ _ right call.1)
+    record {
+      answers = answers space _ _ _ right c.fill.ensures call.value;
+      out_after = leaves space _ _ _ right call.out_after;
+    }

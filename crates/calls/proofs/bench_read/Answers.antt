@@ -1,6 +1,5 @@
 -- `bench_read` meets its contract: nothing where the answer space is wrong, else the reply of `read_so`.
 use native.Mathlib.Omega.{arith}
-use borrow.Author.Rules.{rules}
 use lib.ListN.{length}
 use Rattle.written.proofs.Theorem.ToldOne.{told_some}
 use Rattle.calls.proofs.Answering.{refuses, keeps, answers, leaves}
@@ -9,8 +8,8 @@ use Rattle.calls.proofs.bench_read.Goals as goal
 pub returns-then-answer-ne-ANSWER_LENGTH : goal.returns-then-answer-ne-ANSWER_LENGTH
 returns-then-answer-ne-ANSWER_LENGTH c =
     let args = c.args in
-    let space = args.answer-1.now in
-    let some = told_some args.text.now (length args.out-1.now) in
+    let space = args.answer.now in
+    let some = told_some args.text.now (length args.out.now) in
     record {
       told = some.0;
       by_grammar = some.1;

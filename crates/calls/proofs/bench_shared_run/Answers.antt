@@ -1,6 +1,5 @@
 -- `bench_shared_run` meets its contract: nothing where the answer space is wrong, else the reply of `ended_all`.
 use native.Mathlib.Omega.{arith}
-use borrow.Author.Rules.{rules}
 use Rattle.calls.proofs.Answering.{refuses, keeps, answers, leaves}
 use Rattle.calls.proofs.bench_shared_run.Goals as goal
 

@@ -2,26 +2,25 @@
 use mathlib.Core.Path.{sym, subst}
 use native.Mathlib.Omega.{arith}
 use lib.Seq.{length-take-le}
-use borrow.Author.Rules.{rules}
 use Rattle.lister.specs.Stream.{Tells, as_told, Inside}
 use Rattle.lister.proofs.answer_to.Goals as goal
 
 pub deny-requires : goal.deny-requires
-deny-requires c =
+deny-requires g c =
     let done = c.tell in
-    subst (λ x. Tells c.args.image.now c.args.n (as_told x done.new.1.1.0)) c.in-Refused.is done.ensures.1
+    subst (λ x. Tells c.args.image.now c.args.n (as_told x done.new.space)) c.in-Refused.is done.ensures.tells
 
 pub slice_bounds-space-end : goal.slice_bounds-space-end
-slice_bounds-space-end c =
+slice_bounds-space-end g c =
     let done = c.tell in
-    omega (arith, subst (λ x. Inside x done.new.1.1.0) c.in-Length.is done.ensures.0, done.auto.1.1.0)
+    omega (arith, subst (λ x. Inside x done.new.space) c.in-Length.is done.ensures.inside, done.auto.space)
 
 pub slice_bounds-give-end : goal.slice_bounds-give-end
-slice_bounds-give-end c =
+slice_bounds-give-end g c =
     let done = c.tell in
-    sym (length-take-le _ _ (omega (arith, subst (λ x. Inside x done.new.1.1.0) c.in-Length.is done.ensures.0)))
+    sym (length-take-le _ _ (omega (arith, subst (λ x. Inside x done.new.space) c.in-Length.is done.ensures.inside)))
 
 pub give-requires : goal.give-requires
-give-requires c =
+give-requires g c =
     let done = c.tell in
-    subst (λ x. Tells c.args.image.now c.args.n (as_told x done.new.1.1.0)) c.in-Length.is done.ensures.1
+    subst (λ x. Tells c.args.image.now c.args.n (as_told x done.new.space)) c.in-Length.is done.ensures.tells

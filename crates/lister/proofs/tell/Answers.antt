@@ -2,7 +2,6 @@
 use mathlib.Core.Path.{sym}
 use native.Mathlib.Omega.{arith}
 use lib.Seq.{length-take-le}
-use borrow.Author.Rules.{rules}
 use Rattle.lister.proofs.Telling.{tells_so}
 use Rattle.lister.proofs.tell.Goals as goal
 
@@ -11,4 +10,5 @@ slice_bounds-list-end c = sym (length-take-le _ _ (omega arith))
 
 pub returns : goal.returns
 returns c =
-    tells_so start.args.image.now start.args.n start.requires.0 start.requires.1.0 start.requires.1.1 c.list.ensures
+    let told = tells_so c.args.image.now c.args.n c.requires.image_len c.requires.n_in_bounds c.requires.space_len c.list.ensures in
+    record { inside = told.0; tells = told.1 }

@@ -11,4 +11,5 @@ slice_bounds-read-end c = sym (length-take-le _ _ (omega arith))
 
 pub returns : goal.returns
 returns c =
-    tells_so start.args.text.now start.args.n start.requires.0 start.requires.1 c.read.ensures
+    let told = tells_so c.args.text.now c.args.n c.requires.n_in_bounds c.requires.space_len c.read.ensures in
+    record { inside = told.0; tells = told.1 }

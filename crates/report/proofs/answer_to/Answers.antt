@@ -2,8 +2,7 @@
 use mathlib.Core.Path.{sym}
 use native.Mathlib.Omega.{arith}
 use lib.Seq.{length-take-le}
-use borrow.Author.Rules.{rules}
 use Rattle.report.proofs.answer_to.Goals as goal
 
 pub slice_bounds-write-end : goal.slice_bounds-write-end
-slice_bounds-write-end c = sym (length-take-le _ _ (omega arith))
+slice_bounds-write-end g c = sym (length-take-le _ _ (omega arith))

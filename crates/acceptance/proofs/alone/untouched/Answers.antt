@@ -1,6 +1,5 @@
 -- `untouched` meets its contract: it is that of the two comparisons.
 use Rattle.acceptance.specs.Theorem.Compared.{stays_so}
-use borrow.Author.Rules.{rules}
 use Rattle.acceptance.proofs.alone.untouched.Goals as goal
 
 pub returns : goal.returns

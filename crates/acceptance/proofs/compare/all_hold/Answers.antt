@@ -2,33 +2,20 @@
 use mathlib.Core.Path.{◌≡◌, refl, ◌∙◌, ap}
 use mathlib.Core.Bool.{Bool, ◌&&◌}
 use mathlib.Core.List.{List}
-use Prim.Native.Nat.{ℕ, suc, ◌+◌, ◌-◌, ◌*◌, ◌≤◌}
+use Prim.Native.Nat.{ℕ, suc, ◌+◌, ◌-◌, ◌*◌}
 use native.Mathlib.Omega.{arith}
 use lib.Dec.{leb}
 use lib.IntN.{ℤ, pos}
 use lib.ListN.{length, get_or, take, drop}
-use borrow.Author.Rules.{rules}
 use mir.Syntax.{w32}
-use mir.Val.{of_z, to_z}
+use mir.Val.{SFits, of_z, to_z}
 use mir.Facts.{to_z-of_z}
 use Rattle.imp.specs.Shared.{total}
 use Rattle.image.specs.Bytes.{Bytes}
 use Rattle.shared.specs.Lent.{Tally, tally, progress, part}
 use Rattle.acceptance.specs.Inner.Comparing.{every, setting_holds, all_hold}
 use Rattle.acceptance.specs.Theorem.Same.{every_next}
-use Rattle.acceptance.proofs.compare.all_hold.Lts as lts
-use Rattle.acceptance.proofs.compare.all_hold.Reads as reads
-use Rattle.acceptance.proofs.compare.all_hold.Tie as tie
 use Rattle.acceptance.proofs.compare.all_hold.Goals as goal
-
-abbrev After-struct_known-1 : Type 0
-After-struct_known-1 = lts.After-struct_known tie.the-claims reads.Pre reads.Post goal.the-invariant-loop-s goal.the-decreases-loop-s
-
-abbrev At-loop-s : Type 0
-At-loop-s = lts.At-loop tie.the-claims reads.Pre reads.Post goal.the-invariant-loop-s goal.the-decreases-loop-s
-
-abbrev Start : Type 0
-Start = lts.Start tie.the-claims reads.Pre reads.Post goal.the-invariant-loop-s goal.the-decreases-loop-s
 
 -- ---- laws
 
@@ -47,34 +34,20 @@ whole l set budget visits xs T s all u m e f =
 
 -- ---- one turn
 
-module _ (c : After-struct_known-1) where
-  abbrev at_turn : At-loop-s
-  at_turn = c.before.before.before.before.before.before.before
-
-  abbrev start : Start
-  start = at_turn.before.before.before.before
-
-  abbrev lent : Tally
-  lent = tally start.args.outcomes.now start.args.codes.now start.args.steps.now
-
-  abbrev holding : ℕ → Bool
-  holding t =
-      let args = start.args in
-      setting_holds args.image.now args.set.bits args.budget args.visits t (progress lent t) (part args.store.now t)
-
-  told : c.setting_holds-holds.result ≡ holding at_turn.loop.s
-  unfolding progress part
-  told =
-      let s = at_turn.loop.s in
-      let args = start.args in
-      let width : (s * 16 + 16) - s * 16 ≡ 16 = omega arith in
-      let code = get_or args.codes.now s (pos 0) in
-      let read : to_z w32 (of_z w32 code) ≡ code = to_z-of_z (record { sfits = c.p-1.given }) in
-      c.setting_holds-holds.ensures
-      ∙ (λ i. setting_holds args.image.now args.set.bits args.budget args.visits s
-      (record { outcome = get_or args.outcomes.now s 0; code = read i; steps = get_or args.steps.now s 0 })
-      (take (width i) (drop (s * 16) args.store.now)))
-
+-- what was told of setting s is what condition 3 says of it: the code that was read is that of the slice, and the slice of the store the setting's part
+told : (l : Bytes) (set budget visits : ℕ) (xs : List ℤ) (outcomes : List ℕ) (codes : List ℤ) (steps : List ℕ) (s : ℕ) {u : Bool}
+    → SFits w32 (get_or codes s (pos 0))
+    → u ≡ setting_holds l set budget visits s
+    (record { outcome = get_or outcomes s 0; code = to_z w32 (of_z w32 (get_or codes s (pos 0))); steps = get_or steps s 0 })
+    (take ((s * 16 + 16) - s * 16) (drop (s * 16) xs))
+    → u ≡ setting_holds l set budget visits s (progress (tally outcomes codes steps) s) (part xs s)
+unfolding progress part
+told l set budget visits xs outcomes codes steps s fits e =
+    let width : (s * 16 + 16) - s * 16 ≡ 16 = omega arith in
+    let read : to_z w32 (of_z w32 (get_or codes s (pos 0))) ≡ get_or codes s (pos 0) = to_z-of_z fits in
+    e
+    ∙ (λ i. setting_holds l set budget visits s (record { outcome = get_or outcomes s 0; code = read i; steps = get_or steps s 0 })
+    (take (width i) (drop (s * 16) xs)))
 
 -- ---- the needs
 
@@ -105,12 +78,18 @@ loop-s-smaller c = omega arith
 
 pub loop-s-preserved : goal.loop-s-preserved
 loop-s-preserved c =
-    let turn : tie.At-loop invariant-loop decreases-loop = at_turn c.before in (
+    let args = c.args in
+    let turn = c.loop-s in
+    let holding : ℕ → Bool = λ t.
+    setting_holds args.image.now args.set.bits args.budget args.visits t (progress (tally args.outcomes.now args.codes.now args.steps.now) t)
+    (part args.store.now t) in
+    let this = told args.image.now args.set.bits args.budget args.visits args.store.now args.outcomes.now args.codes.now args.steps.now turn.s
+    (record { sfits = omega arith }) c.setting_holds-holds.ensures in (
       omega arith,
+      refl,
       omega arith,
-      omega arith,
-      total_next turn.loop.s (λ t. get_or (start c.before).args.steps.now t 0) _ turn.loop.inv.3,
-      every_next turn.loop.s (holding c.before) _ _ turn.loop.inv.4 (told c.before),
+      total_next turn.s (λ t. get_or args.steps.now t 0) _ turn.invariant.3,
+      every_next turn.s holding _ _ turn.invariant.4 this,
     )
 
 pub returns : goal.returns

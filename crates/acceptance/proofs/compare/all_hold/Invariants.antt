@@ -1,25 +1,14 @@
 -- `all_hold` meets its contract: before turn s, what is good is every setting below s, and the sum is that of their steps.
-use mathlib.Core.Path.{◌≡◌, refl, ◌∙◌, ap}
-use mathlib.Core.Bool.{Bool, ◌&&◌}
-use mathlib.Core.List.{List}
-use Prim.Native.Nat.{ℕ, suc, ◌+◌, ◌-◌, ◌*◌, ◌≤◌}
-use native.Mathlib.Omega.{arith}
-use lib.Dec.{leb}
-use lib.IntN.{ℤ, pos}
-use lib.ListN.{length, get_or, take, drop}
-use borrow.Author.Rules.{rules}
-use mir.Syntax.{w32}
-use mir.Val.{of_z, to_z}
-use mir.Facts.{to_z-of_z}
+use mathlib.Core.Path.{◌≡◌}
+use Prim.Native.Nat.{◌-◌, ◌*◌, ◌≤◌}
+use lib.ListN.{length, get_or}
 use Rattle.imp.specs.Shared.{total}
-use Rattle.image.specs.Bytes.{Bytes}
-use Rattle.shared.specs.Lent.{Tally, tally, progress, part}
-use Rattle.acceptance.specs.Inner.Comparing.{every, setting_holds, all_hold}
-use Rattle.acceptance.specs.Theorem.Same.{every_next}
+use Rattle.shared.specs.Lent.{tally, progress, part}
+use Rattle.acceptance.specs.Inner.Comparing.{every, setting_holds}
 use Rattle.acceptance.proofs.compare.all_hold.Given as goal
 
 abbrev pub invariant-loop-s : goal.invariant-loop-s
-invariant-loop-s l =     (l.s ≤ l.s-end) × (l.s-end ≡ length l.outcomes) × (l.sum ≤ l.s * 4294967296)
+invariant-loop-s l = (l.s ≤ l.s-end) × (l.s-end ≡ length l.outcomes) × (l.sum ≤ l.s * 4294967296)
     × (l.sum ≡ total l.s (λ t. get_or l.steps t 0))
     × (l.good ≡ every l.s (λ t. setting_holds l.image l.set.bits l.budget l.visits t (progress (tally l.outcomes l.codes l.steps) t) (part l.store t)))
 

@@ -1,39 +1,56 @@
 -- `compare` meets its contract: what it lends has the lengths for as many settings as there are, and then condition 3 makes each comparison true.
-use mathlib.Core.Path.{refl, sym, ◌∙◌, ap}
-use Prim.Native.Nat.{◌*◌}
+use mathlib.Core.Path.{◌≡◌, refl, sym, ◌∙◌}
+use mathlib.Core.List.{List}
+use Prim.Native.Nat.{ℕ, ◌*◌, ◌≤◌}
+use native.Mathlib.Omega.{arith}
+use lib.IntN.{ℤ}
+use lib.ListN.{length, take}
 use lib.Seq.{length-take-le}
-use borrow.Author.Rules.{rules}
+use Rattle.image.specs.Bytes.{Bytes}
+use Rattle.image.specs.Rows.{written, check_rows}
+use Rattle.image.specs.Sets.{settings}
 use Rattle.shared.specs.Lent.{tally}
+use Rattle.acceptance.specs.declared.compare.Verdict.{Verdict}
+use Rattle.acceptance.specs.Inner.Comparing.{compared}
+use Rattle.acceptance.specs.Inner.Expected.{expected}
+use Rattle.acceptance.specs.Inner.Lengths.{Lengths}
 use Rattle.acceptance.specs.Theorem.Answered.{always}
 use Rattle.acceptance.proofs.compare.compare.Goals as goal
 
-pub slice_bounds-compare_lent-end : goal.slice_bounds-compare_lent-end
-slice_bounds-compare_lent-end c = sym (length-take-le _ _ (slice_bounds-store-end c.before.before))
+-- the first n of what is made for 64 settings
+module _ (n : ℕ) (outcomes : List ℕ) (codes : List ℤ) (steps : List ℕ) (few : n ≤ 64) (long_outcomes : length outcomes ≡ 64)
+    (long_codes : length codes ≡ 64) (long_steps : length steps ≡ 64) where
+  outcomes_taken : length (take n outcomes) ≡ n
+  outcomes_taken = length-take-le n outcomes (omega arith)
 
-pub slice_bounds-compare_lent-end-2 : goal.slice_bounds-compare_lent-end-2
-slice_bounds-compare_lent-end-2 c = sym (length-take-le _ _ (slice_bounds-outcomes-end c.before.before))
+  codes_taken : length (take n codes) ≡ n
+  codes_taken = length-take-le n codes (omega arith)
 
-pub slice_bounds-compare_lent-end-3 : goal.slice_bounds-compare_lent-end-3
-slice_bounds-compare_lent-end-3 c = sym (length-take-le _ _ (slice_bounds-codes-end c.before.before))
+  steps_taken : length (take n steps) ≡ n
+  steps_taken = length-take-le n steps (omega arith)
 
-pub slice_bounds-compare_lent-end-4 : goal.slice_bounds-compare_lent-end-4
-slice_bounds-compare_lent-end-4 c = sym (length-take-le _ _ (slice_bounds-steps-end c.before.before))
+  lengths : (store : List ℤ) → length store ≡ 1024 → Lengths (length (take n outcomes)) (length (take (n * 16) store)) (length (take n codes)) (length (take n steps))
+  lengths store long_store =
+      let store_taken = length-take-le (n * 16) store (omega arith) in
+      record {
+        few = omega (arith, outcomes_taken);
+        store_is = omega (arith, outcomes_taken, store_taken);
+        codes_are = codes_taken ∙ sym outcomes_taken;
+        steps_are = steps_taken ∙ sym outcomes_taken;
+      }
+
+  as_expected : (l : Bytes) (set budget : ℕ) {r : Verdict} → n ≡ written (check_rows l) (settings l) 0
+      → r ≡ compared (length (take n outcomes)) l set budget (tally (take n outcomes) (take n codes) (take n steps)) → r ≡ expected l set budget
+  as_expected l set budget are e =
+      e
+      ∙ always l set budget (tally (take n outcomes) (take n codes) (take n steps)) (length (take n outcomes)) (outcomes_taken ∙ are) refl
+      (codes_taken ∙ sym outcomes_taken)
+      (steps_taken ∙ sym outcomes_taken)
 
 pub compare_lent-requires : goal.compare_lent-requires
-compare_lent-requires c =
-    let n = c.settings-n in
-    let outcomes-are = slice_bounds-compare_lent-end-2 c.before.before.before in
-    record {
-      few = rw (sym outcomes-are) n.ensures.0;
-      store_is = sym (slice_bounds-compare_lent-end c.before.before.before.before) ∙ ap (λ k. k * 16) outcomes-are;
-      codes_are = sym (slice_bounds-compare_lent-end-3 c.before.before) ∙ outcomes-are;
-      steps_are = sym (slice_bounds-compare_lent-end-4 c.before) ∙ outcomes-are;
-    }
+compare_lent-requires c = lengths c.settings-n.result _ _ _ c.settings-n.ensures.upper_bound refl refl refl _ refl
 
 pub returns : goal.returns
 returns c =
-    let call = c.compare_lent in
-    let lengths = compare_lent-requires c.before.before.before.before.before.before call.lifetimes in
-    let args = c.args in
-    let outcomes-are = sym (slice_bounds-compare_lent-end-2 c.before.before.before.before.before.before.before.before) ∙ c.settings-n.ensures.1 in
-    call.ensures ∙ always args.image.now args.set.bits args.budget (tally _ _ _) _ outcomes-are refl lengths.codes_are lengths.steps_are
+    as_expected c.settings-n.result _ _ _ c.settings-n.ensures.upper_bound refl refl refl c.args.image.now c.args.set.bits c.args.budget
+    c.settings-n.ensures.value c.compare_lent.ensures

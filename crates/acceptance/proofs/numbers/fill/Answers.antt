@@ -1,12 +1,13 @@
 -- `fill` meets its contract: before turn v the first v numbers are what they start with, and no store changes the length.
 use mathlib.Core.Path.{◌≡◌, refl, sym, ◌∙◌, ap}
 use mathlib.Core.List.{List, [], ◌∷◌, ◌++◌}
-use Prim.Native.Nat.{ℕ, suc, ◌+◌, ◌-◌, ◌≤◌, ◌<◌}
+use Prim.Native.Nat.{ℕ, suc, ◌+◌, ◌<◌}
 use native.Mathlib.Omega.{arith}
 use lib.IntN.{ℤ}
 use lib.ListN.{length, take, set}
 use lib.Seq.{take_all, take-suc-set}
 use borrow.Author.Rules.{rules}
+use mir.Syntax.{w32}
 use mir.Facts.{to_z-of_z}
 use Rattle.shared.specs.SharedRun.{each}
 use Rattle.acceptance.specs.Inner.Comparing.{first, starts}
@@ -32,7 +33,7 @@ loop-v-preserved c =
       omega arith,
       omega arith,
       search rules,
-      one_more _ c.loop-v.v c.loop-v.numbers _ (omega arith) c.loop-v.invariant.3 (to_z-of_z (record { sfits = z.type-inv }) ∙ z.ensures),
+      one_more _ c.loop-v.v c.loop-v.numbers _ (omega arith) c.loop-v.invariant.3 (to_z-of_z {w = w32} (record { sfits = z.type_inv }) ∙ z.ensures),
     )
 
 pub loop-v-init : goal.loop-v-init

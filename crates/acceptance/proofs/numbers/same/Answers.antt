@@ -2,7 +2,7 @@
 use mathlib.Core.Path.{◌≡◌, refl, sym, subst}
 use mathlib.Core.Bool.{true, false}
 use mathlib.Core.List.{List}
-use Prim.Native.Nat.{ℕ, ◌-◌, ◌≤◌, ◌<◌}
+use Prim.Native.Nat.{ℕ, ◌+◌, ◌<◌}
 use native.Mathlib.Omega.{arith}
 use lib.IntN.{ℤ}
 use lib.ListN.{length}
@@ -10,7 +10,6 @@ use borrow.Author.Tests.{eq-eqb, ne_eqb}
 use Rattle.acceptance.specs.Inner.Comparing.{every, same_at, same_numbers}
 use Rattle.acceptance.specs.Theorem.Same.{every_false, every_next}
 use Rattle.acceptance.proofs.Bits.{bits_same, bits_differ}
-use borrow.Author.Rules.{rules}
 use Rattle.acceptance.proofs.numbers.same.Goals as goal
 
 differ_in_length : (a b : List ℤ) → (length a ≡ length b → ⊥) → false ≡ same_numbers a b
@@ -25,20 +24,24 @@ are_same : (a b : List ℤ) (v : ℕ) → length a ≡ length b → v ≡ length
 unfolding same_numbers
 are_same a b v h i e = rw (eq-eqb (length a) (length b) h) (sym (subst (λ n. every n (same_at a b) ≡ true) i e))
 
+one_more : (a b : List ℤ) (v : ℕ) → every v (same_at a b) ≡ true → same_at a b v ≡ true → every (v + 1) (same_at a b) ≡ true
+one_more a b v before this = sym (every_next v (same_at a b) true true (sym before) (sym this))
+
 pub returns-then-a-b : goal.returns-then-a-b
 returns-then-a-b c = differ_in_length _ _ c.if-a-b.true
 
 pub returns-then-a-v : goal.returns-then-a-v
 returns-then-a-v c =
     differ_at _ _ c.loop-v.v c.loop-v.invariant.2 (omega arith)
-    (bits_differ (record { sfits = c.t11-1.given }) (record { sfits = c.t14-1.given }) c.if-a-v.true)
+    (bits_differ (record { sfits = omega arith }) (record { sfits = omega arith }) c.if-a-v.true)
 
 pub loop-v-preserved : goal.loop-v-preserved
-loop-v-preserved c =
-    let args = c.args in
-    let this = bits_same (record { sfits = c.t11-1.given }) (record { sfits = c.t14-1.given }) c.if-a-v.false in
-    let more = every_next c.loop-v.v (same_at args.a.now args.b.now) true true (sym c.loop-v.invariant.3) (sym this) in
-    (omega arith, omega arith, omega arith, sym more)
+loop-v-preserved c = (
+  omega arith,
+  omega arith,
+  omega arith,
+  one_more _ _ c.loop-v.v c.loop-v.invariant.3 (bits_same (record { sfits = omega arith }) (record { sfits = omega arith }) c.if-a-v.false),
+)
 
 pub returns : goal.returns
 returns c =

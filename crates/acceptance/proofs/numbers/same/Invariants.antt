@@ -1,16 +1,9 @@
 -- `same` meets its contract: before turn v the first v numbers are the same.
-use mathlib.Core.Path.{◌≡◌, refl, sym, subst}
-use mathlib.Core.Bool.{true, false}
-use mathlib.Core.List.{List}
-use Prim.Native.Nat.{ℕ, ◌-◌, ◌≤◌, ◌<◌}
-use native.Mathlib.Omega.{arith}
-use lib.IntN.{ℤ}
+use mathlib.Core.Path.{◌≡◌}
+use mathlib.Core.Bool.{true}
+use Prim.Native.Nat.{◌-◌, ◌≤◌}
 use lib.ListN.{length}
-use borrow.Author.Tests.{eq-eqb, ne_eqb}
-use Rattle.acceptance.specs.Inner.Comparing.{every, same_at, same_numbers}
-use Rattle.acceptance.specs.Theorem.Same.{every_false, every_next}
-use Rattle.acceptance.proofs.Bits.{bits_same, bits_differ}
-use borrow.Author.Rules.{rules}
+use Rattle.acceptance.specs.Inner.Comparing.{every, same_at}
 use Rattle.acceptance.proofs.numbers.same.Given as goal
 
 abbrev pub invariant-loop-v : goal.invariant-loop-v

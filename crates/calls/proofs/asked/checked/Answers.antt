@@ -1,6 +1,5 @@
 -- `checked` meets its contract: the check's answer, in numbers.
 use mathlib.Core.Path.{sym, ◌∙◌, ap}
-use borrow.Author.Rules.{rules}
 use Rattle.image.specs.Check.{answer_of}
 use Rattle.calls.specs.Reply.{reply, shape_reply}
 use Rattle.calls.proofs.asked.checked.Goals as goal

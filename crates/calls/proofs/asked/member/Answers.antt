@@ -3,7 +3,6 @@ use mathlib.Core.Path.{◌≡◌, refl, sym, ◌∙◌, ap}
 use mathlib.Core.Bool.{Bool, true, false, cond}
 use Prim.Native.Nat.{ℕ}
 use mir.Val.{bool_byte}
-use borrow.Author.Rules.{rules}
 use Rattle.image.specs.Sets.{set_answer}
 use Rattle.calls.specs.Reply.{values, reply, member_reply}
 use Rattle.calls.proofs.asked.member.Goals as goal

@@ -1,6 +1,5 @@
 -- `read_so` meets its contract: reading's answer, in numbers.
 use mathlib.Core.Path.{◌≡◌, sym, ◌∙◌, ap}
-use borrow.Author.Rules.{rules}
 use Rattle.image.specs.Bytes.{Bytes}
 use Rattle.reading.specs.declared.write.ReadText.{ReadText}
 use Rattle.reading.specs.Reads.{read_answer, ReadsText}
@@ -18,7 +17,6 @@ told v e h = record {
   by_grammar = h.by_grammar;
   reply_is = v ∙ ap in_numbers (sym e) ∙ ap (reply length_reply) h.answered;
   out_is = h.out_is;
-
 }
 
 pub returns-in-Refused : goal.returns-in-Refused

@@ -4,7 +4,6 @@ use mathlib.Core.Bool.{Bool, true, false, cond}
 use Prim.Native.Nat.{ℕ}
 use lib.Dec.{ltb}
 use lib.ListN.{length}
-use borrow.Author.Rules.{rules}
 use Rattle.image.specs.Bytes.{Bytes}
 use Rattle.lines.specs.declared.answer.Report.{Report}
 use Rattle.lines.specs.declared.answer.Report.TheVariants.{Text, Short}
@@ -28,7 +27,11 @@ told {text} {out} v e h =
     (v ∙ ap in_numbers (e ∙ h.answered) ∙ of_length (ltb (length out) (length text)) (length text), h.out_is)
 
 pub returns-in-Text : goal.returns-in-Text
-returns-in-Text c = told c.values.ensures (sym c.in-Text.is) c.report.ensures
+returns-in-Text c =
+    let both = told c.values.ensures (sym c.in-Text.is) c.report.ensures in
+    record { value = both.0; out_after = both.1 }
 
 pub returns-in-Short : goal.returns-in-Short
-returns-in-Short c = told c.values-in-Short.ensures (sym c.in-Short.is) c.report.ensures
+returns-in-Short c =
+    let both = told c.values-in-Short.ensures (sym c.in-Short.is) c.report.ensures in
+    record { value = both.0; out_after = both.1 }

@@ -1,22 +1,23 @@
 -- `written` meets its contract: configuring's answer, in numbers.
 use mathlib.Core.Path.{sym, ◌∙◌, ap}
-use borrow.Author.Rules.{rules}
 use Rattle.configure.specs.Configured.{configure_answer}
 use Rattle.calls.specs.Reply.{reply, length_reply}
 use Rattle.calls.proofs.asked.written.Goals as goal
 
 pub returns-in-Refused : goal.returns-in-Refused
 returns-in-Refused c =
-    let call = c.configure in (
-      c.refused.ensures
-          ∙ ap (λ x. reply length_reply (configure_answer x)) (sym c.in-Refused.is) ∙ ap (reply length_reply) call.ensures.answered,
-      call.ensures.out_is,
-    )
+    let call = c.configure in
+    record {
+      value = c.refused.ensures
+          ∙ ap (λ x. reply length_reply (configure_answer x)) (sym c.in-Refused.is) ∙ ap (reply length_reply) call.ensures.answered;
+      out_after = call.ensures.out_is;
+    }
 
 pub returns-in-Length : goal.returns-in-Length
 returns-in-Length c =
-    let call = c.configure in (
-      c.values.ensures
-          ∙ ap (λ x. reply length_reply (configure_answer x)) (sym c.in-Length.is) ∙ ap (reply length_reply) call.ensures.answered,
-      call.ensures.out_is,
-    )
+    let call = c.configure in
+    record {
+      value = c.values.ensures
+          ∙ ap (λ x. reply length_reply (configure_answer x)) (sym c.in-Length.is) ∙ ap (reply length_reply) call.ensures.answered;
+      out_after = call.ensures.out_is;
+    }

@@ -5,7 +5,6 @@ use Prim.Native.Nat.{ℕ, ◌+◌}
 use native.Mathlib.Omega.{arith}
 use lib.ListN.{length, drop}
 use lib.Seq.{sets, sets-eq, lt-length-sets, drop-length}
-use borrow.Author.Rules.{rules}
 use Rattle.calls.specs.Space.{all_numbers}
 use Rattle.calls.proofs.reply.fill.Goals as goal
 

@@ -1,7 +1,7 @@
 -- `progress` meets its contract: outcome, the 32 bits of the code, and steps.
 use mathlib.Core.Path.{◌∙◌, ap}
+use mir.Syntax.{w32}
 use mir.Facts.{to_z-of_z}
-use borrow.Author.Rules.{rules}
 use Rattle.imp.specs.Numbers.{low32}
 use Rattle.plain.specs.declared.progress.Progress.{Progress}
 use Rattle.calls.specs.Reply.{values}
@@ -13,4 +13,4 @@ returns c =
     c.values.ensures
     ∙ ap (λ w. values p.outcome w p.steps) (
     c.bits.ensures
-    ∙ ap low32 (to_z-of_z (record { sfits = c.struct_told-1.given.1.0.1 })))
+    ∙ ap low32 (to_z-of_z {w = w32} (record { sfits = c.struct_told-1.given.1.0.1 })))

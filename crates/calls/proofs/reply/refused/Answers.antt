@@ -1,5 +1,4 @@
 -- `refused` meets its contract: the refusal's number and place, as `image` gives them.
-use borrow.Author.Rules.{rules}
 use Rattle.calls.proofs.reply.refused.Goals as goal
 
 pub returns : goal.returns
