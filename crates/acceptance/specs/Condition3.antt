@@ -17,10 +17,9 @@ use Rattle.shared.specs.declared.Ends.{Ends}
 use Rattle.shared.specs.declared.SharedRun.TheVariants.{Ended}
 use Rattle.shared.specs.Lent.{Tally, progress, part}
 use Rattle.shared.specs.SharedRun.{shared_rows, SharedRuns}
-use Rattle.acceptance.specs.InTurn.{went_on}
-use Rattle.acceptance.specs.Theorem.InTurn.{as_one_hall}
-use Rattle.acceptance.specs.Theorem.Agree.{carried_out, in_the_set, outside_the_set}
-use Rattle.acceptance.specs.Theorem.Answer.{least, most, in_fault, is_out, no_visit, no_step, no_fault, no_out}
+use Rattle.acceptance.proofs.Theorem.InTurn.{as_run}
+use Rattle.acceptance.proofs.Theorem.Agree.{carried_out, in_the_set, outside_the_set}
+use Rattle.acceptance.proofs.Theorem.Answer.{least, most, in_fault, is_out, no_visit, no_step, no_fault, no_out}
 
 -- a setting that was not run: "idle, 0, 0"
 abbrev pub idle : Progress
@@ -56,7 +55,7 @@ pub condition_3 : (l : Bytes) (set budget : ℕ) (xs xs' : List ℤ) (T T' : Tal
 condition_3 l set budget xs xs' T T' e ran = record {
   inside = in_the_set ran;
   written = carried_out ran;
-  written_inside = λ s i out out' n wrote ns' r runs. in_the_set ran s i ns' r (as_one_hall l s budget (part xs s) (went_on out out' n wrote runs));
+  written_inside = λ s i out out' n wrote ns' r runs. in_the_set ran s i ns' r (as_run l s budget (part xs s) out out' n wrote runs);
   outside = outside_the_set ran;
   least = least ran;
   most = most ran;

@@ -9,7 +9,6 @@ use Rattle.imp.specs.State.{Numbers, State}
 use Rattle.imp.specs.Configure.{configure}
 use Rattle.imp.specs.Plain.{plain_run}
 use Rattle.imp.proofs.Theorem.Configured.{configure_embed}
-use Rattle.image.specs.declared.refusals.Refusal.{Refusal}
 use Rattle.image.specs.Bytes.{Bytes}
 use Rattle.image.specs.Refusals.{number_of, place_of}
 use Rattle.image.specs.Rows.{Row, refused, judge, written, check_rows, NoneFails}
@@ -27,8 +26,8 @@ use Rattle.plain.specs.declared.PlainRun.{PlainRun}
 use Rattle.plain.specs.declared.PlainRun.TheVariants as Plain
 use Rattle.plain.specs.PlainRun.{meant_in, meant, progress_of, lent_rows, choice_row, plain_rows, hall_rows, RunsIn, Runs}
 use Rattle.plain.specs.Theorem.NoChoice.{no_choice_row, no_condition}
-use Rattle.acceptance.specs.InTurn.{Enough, InTurn, stopped, went_on}
-use Rattle.acceptance.specs.Theorem.Configured as Written
+use Rattle.acceptance.specs.InTurn.{InTurn, stopped, went_on}
+use Rattle.acceptance.proofs.Theorem.Configured as Written
 
 module _ (l : Bytes) (s budget : ℕ) (ns : Numbers) where
   abbrev image : Bytes
@@ -58,7 +57,7 @@ module _ (l : Bytes) (s budget : ℕ) (ns : Numbers) where
         ∙ ap (λ a. by_answer a new ns) (same_judged new)
         ∙ sym (written_as_judged rows new new ns)
 
-  as_run : (out out' : Bytes) (n : ℕ) → Configures (configure_rows l s (length out)) l s out out' (Configuring.Length n) → {ns' : Numbers} {r : PlainRun}
+  pub as_run : (out out' : Bytes) (n : ℕ) → Configures (configure_rows l s (length out)) l s out out' (Configuring.Length n) → {ns' : Numbers} {r : PlainRun}
       → Runs (plain_rows (take n out') budget (length ns)) (take n out') budget ns ns' r → RunsIn s rows l budget ns ns' r
   as_run out out' n wrote {ns'} {r} ran =
       let acc = Written.was_accepted l s out out' wrote in
@@ -69,31 +68,27 @@ module _ (l : Bytes) (s budget : ℕ) (ns : Numbers) where
         numbers_are = own.numbers_are ∙ same_written acc below _ ∙ ap (λ (σ : State). written rows σ.numbers ns) (is_meant acc below);
       }
 
-  -- ---- configuring is refused
-
-  module _ (out out' : Bytes) (q : Refusal) (room : Enough l s out)
-      (wrote : Configures (configure_rows l s (length out)) l s out out' (Configuring.Refused q)) where
-    -- the refusal is one of tests 1 to 8 and 11: there is space for what would be written
-    same_refusal : {A : Type 0} (x : A) → refused (number_of q) (place_of q) ≡ judge rows x
-    unfolding check_rows configure_rows space_rows hall_rows
-    same_refusal x =
-        let first : List Row = check_rows l ++ (setting_row l s ∷ []) in
-        let fits : NoneFails first → NoneFails (space_rows l s (length out)) = λ none.
-        let long = room (all_passed l (none_each (check_rows l) (setting_row l s ∷ []) none).0) in
-        (le-ltb (length out) (length image) (omega (arith, long)), tt) in
-        sym (refused_alike x (length image) (space_rows l s (length out)) (lent_rows budget (length ns)) (number_of q) (place_of q) first fits (sym wrote.answered))
-
-    as_refused : RunsIn s rows l budget ns ns (Plain.Refused q)
-    as_refused =
-        let new : Numbers = (meant_in s l budget ns).numbers in
-        record {
-          answered = same_refusal _;
-          numbers_are = sym (written_as_judged rows new new ns ∙ ap (λ a. by_answer a new ns) (sym (same_refusal new)));
-        }
-
   -- ---- both
 
   pub as_one_hall : {ns' : Numbers} {r : PlainRun} → InTurn l s budget ns ns' r → RunsIn s rows l budget ns ns' r
+  unfolding check_rows configure_rows space_rows hall_rows
   as_one_hall (went_on out out' n wrote ran) = as_run out out' n wrote ran
   as_one_hall (stopped out out' q room wrote r-is ns-is) =
-      subst₂ (λ ms a. RunsIn s rows l budget ns ms a) (sym ns-is) (sym r-is) (as_refused out out' q room wrote)
+      subst₂ (λ ms a. RunsIn s rows l budget ns ms a) (sym ns-is) (sym r-is) as_refused
+    where
+      -- the refusal is one of tests 1 to 8 and 11: there is space for what would be written
+      same_refusal : {A : Type 0} (x : A) → refused (number_of q) (place_of q) ≡ judge rows x
+      same_refusal x =
+          let first : List Row = check_rows l ++ (setting_row l s ∷ []) in
+          let fits : NoneFails first → NoneFails (space_rows l s (length out)) = λ none.
+          let long = room (all_passed l (none_each (check_rows l) (setting_row l s ∷ []) none).0) in
+          (le-ltb (length out) (length image) (omega (arith, long)), tt) in
+          sym (refused_alike x (length image) (space_rows l s (length out)) (lent_rows budget (length ns)) (number_of q) (place_of q) first fits (sym wrote.answered))
+
+      as_refused : RunsIn s rows l budget ns ns (Plain.Refused q)
+      as_refused =
+          let new : Numbers = (meant_in s l budget ns).numbers in
+          record {
+            answered = same_refusal _;
+            numbers_are = sym (written_as_judged rows new new ns ∙ ap (λ a. by_answer a new ns) (sym (same_refusal new)));
+          }

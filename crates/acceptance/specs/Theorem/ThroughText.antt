@@ -20,8 +20,8 @@ use Rattle.listing.specs.Lists.{listing_of, list_rows, Lists}
 use Rattle.configure.specs.declared.Configured.TheVariants.{Length}
 use Rattle.configure.specs.Configured.{configured, configure_rows, Configures}
 use Rattle.configure.specs.Theorem.Result as Result
-use Rattle.acceptance.specs.Theorem.Configured.{was_accepted, length_written, image_written}
-use Rattle.acceptance.specs.Theorem.TextBack.{is_listed, read_as_image}
+use Rattle.acceptance.proofs.Theorem.Configured.{was_accepted, length_written, image_written}
+use Rattle.acceptance.proofs.Theorem.TextBack.{is_listed, read_as_image}
 
 -- the image m listed and read, in turn, is itself
 abbrev pub Itself : Bytes → ℕ → Type 0
@@ -45,13 +45,13 @@ module _ (l : Bytes) (s : ℕ) (out out' : Bytes) {n : ℕ} (wrote : Configures 
   few : recordsˢ (routine new) ≤ RECORDS
   few = omega (arith, ap recordsˢ (Result.tree_is l acc s), no_recordsˢ (configure s (routine l)))
 
-  itself : Itself new n
-  itself text text' out₂ out₂' r q room space told read =
-      let long : length (written_image (header new).options (routine new)) ≡ n = ap length same ∙ sym (length_written l s out out' wrote) in
-      let e = is_listed new text (Result.passes l acc s) few room text' r told in
-      let listed = subst (Lists (list_rows new (length text)) new text text') e told in
-      let k = read_as_image new text text' listed out₂ out₂' q (omega (arith, long)) read in
-      (e, k.0 ∙ ap ReadLength long, ap (λ i. take i out₂') (sym long) ∙ k.1 ∙ same)
-
   pub through_text : Itself (take n out') n
   through_text = subst (λ m. Itself m n) (sym (image_written l s out out' wrote)) itself
+    where
+      itself : Itself new n
+      itself text text' out₂ out₂' r q room space told read =
+          let long : length (written_image (header new).options (routine new)) ≡ n = ap length same ∙ sym (length_written l s out out' wrote) in
+          let e = is_listed new text (Result.passes l acc s) few room text' r told in
+          let listed = subst (Lists (list_rows new (length text)) new text text') e told in
+          let k = read_as_image new text text' listed out₂ out₂' q (omega (arith, long)) read in
+          (e, k.0 ∙ ap ReadLength long, ap (λ i. take i out₂') (sym long) ∙ k.1 ∙ same)

@@ -3,23 +3,22 @@ use mathlib.Core.Path.{sym, ◌∙◌, ap}
 use native.Mathlib.Omega.{arith}
 use lib.ListN.{length}
 use lib.Seq.{length-take-le}
-use borrow.Author.Rules.{rules}
 use Rattle.text.proofs.Putting.{front}
 use Rattle.hall.specs.Text.{text}
 use Rattle.hall.specs.Theorem.Cut.{cut_later}
 use Rattle.hall.proofs.answer_to.Goals as goal
 
 pub write-requires : goal.write-requires
-write-requires c =
-    let input = start.args.input.now in
+write-requires g c =
+    let input = c.args.input.now in
     record {
-      is_text = λ stream same. front _ _ c.tell-end.ensures ∙ ap text same ∙ cut_later (length input) stream (omega (arith, start.requires.0));
+      is_text = λ stream same. front _ _ c.tell-end.ensures ∙ ap text same ∙ cut_later (length input) stream (omega (arith, c.requires.input_len));
     }
 
 pub slice_bounds-tell-end : goal.slice_bounds-tell-end
-slice_bounds-tell-end c = sym (length-take-le _ _ (omega (arith, c.before.before.requires.1)))
+slice_bounds-tell-end g c = sym (length-take-le _ _ c.requires.n_in_bounds)
 
 pub slice_bounds-write-end : goal.slice_bounds-write-end
-slice_bounds-write-end c =
+slice_bounds-write-end g c =
     let told = c.tell-end in
-    sym (length-take-le _ _ (omega (arith, told.ensures.fits, told.ensures.next_is, told.auto.1.0)))
+    sym (length-take-le _ _ (omega (arith, told.ensures.fits, told.ensures.next_is, told.auto.out)))

@@ -1,14 +1,12 @@
 -- `put_variables` meets its contract: before each turn the lines of the first v variables are written, and none is longer than 16 bytes.
 use mathlib.Core.Path.{◌≡◌, refl, ◌∙◌, ap}
-use Prim.Native.Nat.{ℕ, suc, ◌+◌, ◌-◌, ◌*◌, ◌≤◌}
+use Prim.Native.Nat.{ℕ, suc, ◌+◌}
 use native.Mathlib.Omega.{arith}
 use lib.IntN.{ℤ, pos}
-use lib.ListN.{length, get_or}
+use lib.ListN.{get_or}
 use mir.Syntax.{w32}
 use mir.Val.{SFits}
 use mir.Facts.{to_z-of_z}
-use borrow.Author.Rules.{rules}
-use Rattle.text.specs.Inner.Puts.{Puts}
 use Rattle.text.proofs.Putting.{then, same}
 use Rattle.hall.specs.Text.{variable_line, variable_lines}
 use Rattle.hall.specs.Theorem.Fits.{variable_length}
@@ -20,12 +18,12 @@ loop-v-preserved c =
     let v : ℕ = c.loop-v.v in
     let z : ℤ = get_or c.args.numbers.now v (pos 0) in
     let put = c.put_variable-end in
-    let fits : SFits w32 z = record { sfits = c.z-1.given } in
+    let fits : SFits w32 z = record { sfits = omega arith } in
     let next : v + 1 ≡ suc v = omega arith in
     let this = same (ap (variable_line v) (to_z-of_z fits)) put.ensures in (
       omega arith,
       omega (arith, this.next_is, variable_length v z (omega arith) fits),
-      put.auto.0 ∙ c.loop-v.invariant.2,
+      put.auto.out ∙ c.loop-v.invariant.2,
       rw next (then c.loop-v.invariant.3 this),
     )
 
