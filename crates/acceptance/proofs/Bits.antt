@@ -8,7 +8,7 @@ use mir.Syntax.{w32}
 use mir.Val.{SFits, of_z, to_z}
 use mir.Facts.{to_z-of_z}
 use Rattle.acceptance.specs.Inner.Comparing.{same_number}
-use Rattle.acceptance.proofs.Theorem.Same.{same_number_is, alike}
+use Rattle.acceptance.specs.Theorem.Same.{same_number_is, alike}
 
 pub same_bits : {a b : ℤ} → SFits w32 a → SFits w32 b → of_z w32 a ≡ of_z w32 b → a ≡ b
 same_bits f g e = sym (to_z-of_z f) ∙ ap (to_z w32) e ∙ to_z-of_z g

@@ -31,10 +31,10 @@ use Rattle.lines.specs.declared.answer.Report.{Report}
 use Rattle.lines.specs.declared.answer.Report.TheVariants.{Text, Short}
 use Rattle.lines.specs.Report.{Reports}
 use Rattle.lines.specs.Text.{lines, last_line, refusal_line, set_in, budget_in, image_in, run_of, report_rows, text}
-use Rattle.acceptance.proofs.Theorem.ByTable.{refusal_is, carried_is, decided, as_lent}
-use Rattle.acceptance.proofs.Theorem.Orders.{check_order, condition_order, configure_order, list_order, plain_order, hall_order, shared_order, report_order}
-use Rattle.acceptance.proofs.Theorem.TextTold as Text
-use Rattle.acceptance.proofs.Theorem.Told.{refusal_exactly, run_told, fits, does_not_fit}
+use Rattle.acceptance.specs.Theorem.ByTable.{refusal_is, carried_is, decided, as_lent}
+use Rattle.acceptance.specs.Theorem.Orders.{check_order, condition_order, configure_order, list_order, plain_order, hall_order, shared_order, report_order}
+use Rattle.acceptance.specs.Theorem.TextTold as Text
+use Rattle.acceptance.specs.Theorem.Told.{refusal_exactly, run_told, fits, does_not_fit}
 
 -- a call with the table `rows` was lent `lent`, answered a and left `left`
 pub record ByTable {A M : Type 0} (rows : List Row) (a : Answer A) (lent left : M) : Type 0 where

@@ -17,9 +17,9 @@ use Rattle.shared.specs.declared.Ends.{Ends}
 use Rattle.shared.specs.declared.SharedRun.TheVariants.{Ended}
 use Rattle.shared.specs.Lent.{Tally, progress, part}
 use Rattle.shared.specs.SharedRun.{shared_rows, SharedRuns}
-use Rattle.acceptance.proofs.Theorem.InTurn.{as_run}
-use Rattle.acceptance.proofs.Theorem.Agree.{carried_out, in_the_set, outside_the_set}
-use Rattle.acceptance.proofs.Theorem.Answer.{least, most, in_fault, is_out, no_visit, no_step, no_fault, no_out}
+use Rattle.acceptance.specs.Theorem.InTurn.{as_run}
+use Rattle.acceptance.specs.Theorem.Agree.{carried_out, in_the_set, outside_the_set}
+use Rattle.acceptance.specs.Theorem.Answer.{least, most, in_fault, is_out, no_visit, no_step, no_fault, no_out}
 
 -- a setting that was not run: "idle, 0, 0"
 abbrev pub idle : Progress

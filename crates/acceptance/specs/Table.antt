@@ -39,8 +39,8 @@ use Rattle.shared.specs.Lent.{Tally, tally, part}
 use Rattle.shared.specs.declared.SharedRun.{SharedRun}
 use Rattle.shared.specs.SharedRun as Shared
 use Rattle.shared.specs.SharedRun.{each, numbers_of, tally_of, set_of, ends_of, exact, set_rows, shared_rows, shared_answer, SharedRuns}
-use Rattle.acceptance.proofs.Theorem.Images.{G, L, I, J, E, S}
-use Rattle.acceptance.proofs.Theorem.Calls.{Call, shared_run, plain_run, one_hall, configure, check, condition_set, Result, shared, plain, configuring, checking, asking, bits_of, comes_back, case, Case, Holds, Hold, row_of, shared_kept, plain_kept, hall_kept, configuring_kept, checking_kept, asking_kept}
+use Rattle.acceptance.specs.Theorem.Images.{G, L, I, J, E, S}
+use Rattle.acceptance.specs.Theorem.Calls.{Call, shared_run, plain_run, one_hall, configure, check, condition_set, Result, shared, plain, configuring, checking, asking, bits_of, comes_back, case, Case, Holds, Hold, row_of, shared_kept, plain_kept, hall_kept, configuring_kept, checking_kept, asking_kept}
 
 -- ---- what is lent, and what is expected
 

@@ -32,7 +32,7 @@ use Rattle.shared.specs.SharedRun.{shared_rows, SharedRuns}
 use Rattle.lines.specs.declared.answer.Report.{Report}
 use Rattle.lines.specs.Report.{Reports}
 use Rattle.lines.specs.Text.{text}
-use Rattle.acceptance.proofs.Theorem.One.{one_check, one_configure, one_list, one_read, one_plain, one_shared, one_set, one_condition_set, one_full}
+use Rattle.acceptance.specs.Theorem.One.{one_check, one_configure, one_list, one_read, one_plain, one_shared, one_set, one_condition_set, one_full}
 
 -- a set's bits are a number of 64 bits, as the code has it
 abbrev pub Small : Set → Type 0

@@ -1,22 +1,29 @@
-// A line for each routine: its number, and whether condition 3 holds of it.
+// A line for each routine: its number, and whether condition 3 holds of it. Where it cannot be written, nothing tells it.
 use crate::compare::{Compared, Verdict};
-use std::io;
 
-fn tell_compared<R: Print>(rt: &R, k: u64, c: Compared) -> io::Result<()> {
+fn tell_compared<R: Print>(rt: &R, c: Compared) {
     let word = if c.holds { "holds" } else { "FAILS" };
-    println!(rt;
-        "routine {k}: {} settings, {} visits, condition 3 {word}",
+    let _ = println!(rt;
+        "{} settings, {} visits, condition 3 {word}",
         c.settings, c.visits
-    )
+    );
 }
 
-pub fn tell<R: Print>(rt: &R, k: u64, verdict: Verdict) -> io::Result<()> {
+fn tell_number<R: Print>(rt: &R, k: u64) {
+    let _ = print!(rt; "routine {k}: ");
+}
+
+pub fn tell<R: Print>(rt: &R, k: u64, verdict: Verdict) {
+    tell_number(rt, k);
     match verdict {
-        Verdict::Refused => println!(rt; "routine {k}: refused"),
-        Verdict::Of(c) => tell_compared(rt, k, c),
+        Verdict::Refused => {
+            let _ = println!(rt; "refused");
+        }
+        Verdict::Of(c) => tell_compared(rt, c),
     }
 }
 
-pub fn tell_cut_short<R: Print>(rt: &R, k: u64) -> io::Result<()> {
-    println!(rt; "routine {k}: cut short")
+pub fn tell_cut_short<R: Print>(rt: &R, k: u64) {
+    tell_number(rt, k);
+    let _ = println!(rt; "cut short");
 }

@@ -73,7 +73,10 @@ fn main(rt: HostRuntime) {
         return;
     }
     if got.bytes == SPACE {
-        complain(&mut rt.stderr(), b"reader: the text is longer than 262,144 bytes\n");
+        complain(
+            &mut rt.stderr(),
+            b"reader: the text is longer than 262,144 bytes\n",
+        );
         return;
     }
     answer_to(&mut rt.stdout(), &mut rt.stderr(), &text, got.bytes)

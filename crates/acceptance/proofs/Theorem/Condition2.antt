@@ -1,13 +1,13 @@
 -- The runs follow the rules, and what is written reads back: the promise of specs/Condition2 holds.
 use Rattle.imp.proofs.Theorem.VimpUnique.{unique}
-use Rattle.acceptance.proofs.Theorem.Answer.{in_fault, is_out}
-use Rattle.acceptance.proofs.Theorem.Configured.{beyond_kept}
-use Rattle.acceptance.proofs.Theorem.PlainRules.{hall_by_imp, hall_by_imp_only, plain_image, by_imp, by_imp_only}
-use Rattle.acceptance.proofs.Theorem.ReadBack as Back
-use Rattle.acceptance.proofs.Theorem.SharedRules as Rules
-use Rattle.acceptance.proofs.Theorem.TextRead as Read
-use Rattle.acceptance.proofs.Theorem.TextBack as Text
-use Rattle.acceptance.proofs.Theorem.ThroughText.{through_text}
+use Rattle.acceptance.specs.Theorem.Answer.{in_fault, is_out}
+use Rattle.acceptance.specs.Theorem.Configured.{beyond_kept}
+use Rattle.acceptance.specs.Theorem.PlainRules.{hall_by_imp, hall_by_imp_only, plain_image, by_imp, by_imp_only}
+use Rattle.acceptance.specs.Theorem.ReadBack as Back
+use Rattle.acceptance.specs.Theorem.SharedRules as Rules
+use Rattle.acceptance.specs.Theorem.TextRead as Read
+use Rattle.acceptance.specs.Theorem.TextBack as Text
+use Rattle.acceptance.specs.Theorem.ThroughText.{through_text}
 use Rattle.acceptance.specs.Condition2.{Condition2}
 
 pub condition_2 : Condition2

@@ -8,10 +8,10 @@ use Rattle.image.proofs.Theorem.Carried.{among, is_among}
 use Rattle.plain.specs.declared.PlainRun.{PlainRun}
 use Rattle.plain.specs.PlainRun.{hall_rows, plain_answer}
 use Rattle.acceptance.specs.InTurn.{InTurn}
-use Rattle.acceptance.proofs.Theorem.Orders.{hall_order}
-use Rattle.acceptance.proofs.Theorem.Configured.{enough}
-use Rattle.acceptance.proofs.Theorem.One.{one_plain}
-use Rattle.acceptance.proofs.Theorem.InTurn.{as_one_hall}
+use Rattle.acceptance.specs.Theorem.Orders.{hall_order}
+use Rattle.acceptance.specs.Theorem.Configured.{enough}
+use Rattle.acceptance.specs.Theorem.One.{one_plain}
+use Rattle.acceptance.specs.Theorem.InTurn.{as_one_hall}
 use Rattle.acceptance.specs.OneHall.{OneHall}
 
 -- a refusal of the two in turn is one of one hall's

@@ -16,9 +16,9 @@ use Rattle.shared.specs.declared.Ends.{Ends}
 use Rattle.shared.specs.declared.SharedRun.TheVariants.{Ended}
 use Rattle.shared.specs.Lent.{Tally, progress, part}
 use Rattle.shared.specs.SharedRun.{shared_rows, SharedRuns}
-use Rattle.acceptance.proofs.Theorem.Shared as Run
-use Rattle.acceptance.proofs.Theorem.Configured.{is_written, enough}
-use Rattle.acceptance.proofs.Theorem.Hall.{hall_ends}
+use Rattle.acceptance.specs.Theorem.Shared as Run
+use Rattle.acceptance.specs.Theorem.Configured.{is_written, enough}
+use Rattle.acceptance.specs.Theorem.Hall.{hall_ends}
 
 module _ {l : Bytes} {set budget : ℕ} {xs xs' : List ℤ} {T T' : Tally} {e : Ends}
     (ran : SharedRuns (shared_rows l set budget xs T) l set budget xs T xs' T' (Ended e)) where

@@ -20,9 +20,9 @@ use Rattle.shared.specs.declared.Ends.{Ends}
 use Rattle.shared.specs.declared.SharedRun.TheVariants.{Ended}
 use Rattle.shared.specs.Lent.{Tally, progress, part}
 use Rattle.shared.specs.SharedRun.{meant, set_of, ends_of, shared_rows, SharedRuns}
-use Rattle.acceptance.proofs.Theorem.Members.{member, no_member, no_members}
-use Rattle.acceptance.proofs.Theorem.Left.{total_same}
-use Rattle.acceptance.proofs.Theorem.Shared.{ends_are, outside_is, progress_left, outcome_past}
+use Rattle.acceptance.specs.Theorem.Members.{member, no_member, no_members}
+use Rattle.acceptance.specs.Theorem.Left.{total_same}
+use Rattle.acceptance.specs.Theorem.Shared.{ends_are, outside_is, progress_left, outcome_past}
 
 module _ {l : Bytes} {set budget : ℕ} {xs xs' : List ℤ} {T T' : Tally} {e : Ends}
     (ran : SharedRuns (shared_rows l set budget xs T) l set budget xs T xs' T' (Ended e)) where

@@ -19,8 +19,8 @@ use Rattle.acceptance.specs.declared.compare.Compared.{Compared}
 use Rattle.acceptance.specs.declared.compare.Verdict.TheVariants.{Of, Refused}
 use Rattle.acceptance.specs.Inner.Comparing.{starts, judged, compared}
 use Rattle.acceptance.specs.Inner.Expected.{compare_rows, verdict, holding, expected}
-use Rattle.acceptance.proofs.Theorem.Compared.{shared_ended}
-use Rattle.acceptance.proofs.Theorem.Holding.{starts_length, all_true}
+use Rattle.acceptance.specs.Theorem.Compared.{shared_ended}
+use Rattle.acceptance.specs.Theorem.Holding.{starts_length, all_true}
 
 module _ (l : Bytes) (set budget : ℕ) (T : Tally) where
   abbrev N : ℕ

@@ -24,11 +24,11 @@ use Rattle.shared.specs.SharedRun as Sharing
 use Rattle.shared.specs.SharedRun.{tally_of, ends_of, shared_rows, SharedRuns}
 use Rattle.acceptance.specs.Inner.Comparing.{first, starts, own_start, agrees, stays, setting_holds, all_hold}
 use Rattle.acceptance.specs.Condition3.{Condition3, condition_3}
-use Rattle.acceptance.proofs.Theorem.Left.{each_length, each_at, part_length}
-use Rattle.acceptance.proofs.Theorem.Shared as Run
-use Rattle.acceptance.proofs.Theorem.Hall as Hall
-use Rattle.acceptance.proofs.Theorem.Same.{every_true, same_numbers_is, same_progress_is}
-use Rattle.acceptance.proofs.Theorem.Compared.{run_ended, stays_so, holds_inside, holds_outside}
+use Rattle.acceptance.specs.Theorem.Left.{each_length, each_at, part_length}
+use Rattle.acceptance.specs.Theorem.Shared as Run
+use Rattle.acceptance.specs.Theorem.Hall as Hall
+use Rattle.acceptance.specs.Theorem.Same.{every_true, same_numbers_is, same_progress_is}
+use Rattle.acceptance.specs.Theorem.Compared.{run_ended, stays_so, holds_inside, holds_outside}
 
 -- ---- the numbers that a setting starts with are its part of the store
 

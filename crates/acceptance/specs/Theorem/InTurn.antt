@@ -27,7 +27,7 @@ use Rattle.plain.specs.declared.PlainRun.TheVariants as Plain
 use Rattle.plain.specs.PlainRun.{meant_in, meant, progress_of, lent_rows, choice_row, plain_rows, hall_rows, RunsIn, Runs}
 use Rattle.plain.specs.Theorem.NoChoice.{no_choice_row, no_condition}
 use Rattle.acceptance.specs.InTurn.{InTurn, stopped, went_on}
-use Rattle.acceptance.proofs.Theorem.Configured as Written
+use Rattle.acceptance.specs.Theorem.Configured as Written
 
 module _ (l : Bytes) (s budget : ℕ) (ns : Numbers) where
   abbrev image : Bytes

@@ -22,7 +22,7 @@ use Rattle.plain.specs.declared.PlainRun.TheVariants.{Ended}
 use Rattle.plain.specs.PlainRun.{meant_in, progress_of, lent_rows, choice_row, plain_rows, RunsIn, Runs}
 use Rattle.plain.specs.Theorem.NoChoice.{NoChoice, own_routine}
 use Rattle.acceptance.specs.ByRules.{ByImp}
-use Rattle.acceptance.proofs.Theorem.ImpEnds.{imp_ends, imp_only}
+use Rattle.acceptance.specs.Theorem.ImpEnds.{imp_ends, imp_only}
 
 -- ---- a run in setting s, whatever its table is: the rules of the routine configured for it
 

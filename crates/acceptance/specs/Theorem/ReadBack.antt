@@ -19,7 +19,7 @@ use Rattle.configure.specs.declared.Configured.{Configured}
 use Rattle.configure.specs.declared.Configured.TheVariants.{Length}
 use Rattle.configure.specs.Configured.{configured, configure_rows, Configures}
 use Rattle.configure.specs.Theorem.Result as Result
-use Rattle.acceptance.proofs.Theorem.Configured.{was_accepted, length_written, image_written, is_written}
+use Rattle.acceptance.specs.Theorem.Configured.{was_accepted, length_written, image_written, is_written}
 
 -- an answer that is no refusal
 pub good : (r : Checked) (shape : Shape) → answer_of r ≡ answer shape → r ≡ Good shape

@@ -26,7 +26,7 @@ use Rattle.shared.specs.declared.Ends.{Ends}
 use Rattle.shared.specs.declared.SharedRun.TheVariants.{Ended}
 use Rattle.shared.specs.Lent.{Tally, progress, part}
 use Rattle.shared.specs.SharedRun.{meant, numbers_of, tally_of, ends_of, exact, set_rows, shared_rows, SharedRuns}
-use Rattle.acceptance.proofs.Theorem.Left.{each_at, each_past, part_length, numbers_at}
+use Rattle.acceptance.specs.Theorem.Left.{each_at, each_past, part_length, numbers_at}
 
 module _ {l : Bytes} {set budget : ℕ} {xs xs' : List ℤ} {T T' : Tally} {e : Ends}
     (ran : SharedRuns (shared_rows l set budget xs T) l set budget xs T xs' T' (Ended e)) where

@@ -18,8 +18,8 @@ use Rattle.shared.specs.declared.SharedRun.TheVariants.{Ended}
 use Rattle.shared.specs.Lent.{Tally, progress, part}
 use Rattle.shared.specs.SharedRun.{meant, ends_of, shared_rows, SharedRuns}
 use Rattle.acceptance.specs.ByRules.{ended, says, ByImp}
-use Rattle.acceptance.proofs.Theorem.Shared as Run
-use Rattle.acceptance.proofs.Theorem.ImpEnds.{imp_ends}
+use Rattle.acceptance.specs.Theorem.Shared as Run
+use Rattle.acceptance.specs.Theorem.ImpEnds.{imp_ends}
 
 module _ {l : Bytes} {set budget : ℕ} {xs xs' : List ℤ} {T T' : Tally} {e : Ends}
     (ran : SharedRuns (shared_rows l set budget xs T) l set budget xs T xs' T' (Ended e)) where

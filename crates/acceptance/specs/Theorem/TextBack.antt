@@ -30,7 +30,7 @@ use Rattle.listing.specs.declared.Listed.{Listed}
 use Rattle.listing.specs.declared.Listed.TheVariants.{Length, Refused}
 use Rattle.listing.specs.Lists.{listing_of, text_rows, list_rows, list_answer, Lists}
 use Rattle.listing.proofs.Theorem.ReadBack.{was_accepted, few_records, found, reads_back}
-use Rattle.acceptance.proofs.Theorem.TextRead.{taken, kept, is_read, wrote, image_is}
+use Rattle.acceptance.specs.Theorem.TextRead.{taken, kept, is_read, wrote, image_is}
 
 -- an answer that is no refusal
 length_answered : (r : Listed) (n : ℕ) → list_answer r ≡ answer n → r ≡ Length n

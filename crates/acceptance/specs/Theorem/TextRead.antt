@@ -23,8 +23,8 @@ use Rattle.written.proofs.Theorem.WrittenAccepted.{reading_accepted}
 use Rattle.reading.specs.declared.write.ReadText.{ReadText}
 use Rattle.reading.specs.declared.write.ReadText.TheVariants.{Length, Refused}
 use Rattle.reading.specs.Reads.{read_answer, length_of, left_by, ReadsText}
-use Rattle.acceptance.proofs.Theorem.ReadBack.{good}
-use Rattle.acceptance.proofs.Theorem.TextTold.{told_so}
+use Rattle.acceptance.specs.Theorem.ReadBack.{good}
+use Rattle.acceptance.specs.Theorem.TextTold.{told_so}
 
 -- ---- bytes over a slice
 

@@ -20,8 +20,8 @@ use Rattle.listing.specs.Lists.{listing_of, list_rows, Lists}
 use Rattle.configure.specs.declared.Configured.TheVariants.{Length}
 use Rattle.configure.specs.Configured.{configured, configure_rows, Configures}
 use Rattle.configure.specs.Theorem.Result as Result
-use Rattle.acceptance.proofs.Theorem.Configured.{was_accepted, length_written, image_written}
-use Rattle.acceptance.proofs.Theorem.TextBack.{is_listed, read_as_image}
+use Rattle.acceptance.specs.Theorem.Configured.{was_accepted, length_written, image_written}
+use Rattle.acceptance.specs.Theorem.TextBack.{is_listed, read_as_image}
 
 -- the image m listed and read, in turn, is itself
 abbrev pub Itself : Bytes → ℕ → Type 0

@@ -14,9 +14,9 @@ use Rattle.lines.specs.declared.answer.Report.{Report}
 use Rattle.lines.specs.declared.answer.Report.TheVariants.{Text, Short}
 use Rattle.lines.specs.Report.{Reports}
 use Rattle.lines.specs.Text.{lines, last_line, refusal_line, set_in, budget_in, image_in, run_of, report_rows, told, text}
-use Rattle.acceptance.proofs.Theorem.ByTable.{decided}
-use Rattle.acceptance.proofs.Theorem.RefusalLines.{same_line, no_line}
-use Rattle.acceptance.proofs.Theorem.Places.{report_64}
+use Rattle.acceptance.specs.Theorem.ByTable.{decided}
+use Rattle.acceptance.specs.Theorem.RefusalLines.{same_line, no_line}
+use Rattle.acceptance.specs.Theorem.Places.{report_64}
 
 some_setting : (l : Bytes) → 0 < settings l
 unfolding settings

@@ -2,7 +2,6 @@
 use mathlib.Core.Path.{sym, subst}
 use native.Mathlib.Omega.{arith}
 use lib.Seq.{length-take-le}
-use borrow.Author.Rules.{rules}
 use Rattle.reader.specs.Stream.{Tells, as_told, Inside}
 use Rattle.reader.proofs.answer_to.Goals as goal
 

@@ -2,7 +2,6 @@
 use mathlib.Core.Path.{sym}
 use native.Mathlib.Omega.{arith}
 use lib.Seq.{length-take-le}
-use borrow.Author.Rules.{rules}
 use Rattle.reader.proofs.Telling.{tells_so}
 use Rattle.reader.proofs.tell.Goals as goal
 

@@ -1,5 +1,5 @@
 -- `agrees` meets its contract: the run of one hall answers and leaves what its promise says.
-use Rattle.acceptance.proofs.Theorem.Compared.{run_refused, run_ended}
+use Rattle.acceptance.specs.Theorem.Compared.{run_refused, run_ended}
 use Rattle.acceptance.proofs.alone.agrees.Goals as goal
 
 pub returns-in-Refused : goal.returns-in-Refused

@@ -1,5 +1,5 @@
 -- `untouched` meets its contract: it is that of the two comparisons.
-use Rattle.acceptance.proofs.Theorem.Compared.{stays_so}
+use Rattle.acceptance.specs.Theorem.Compared.{stays_so}
 use Rattle.acceptance.proofs.alone.untouched.Goals as goal
 
 pub returns : goal.returns

@@ -14,7 +14,7 @@ use Rattle.imp.specs.Shared.{total}
 use Rattle.image.specs.Bytes.{Bytes}
 use Rattle.shared.specs.Lent.{Tally, tally, progress, part}
 use Rattle.acceptance.specs.Inner.Comparing.{every, setting_holds, all_hold}
-use Rattle.acceptance.proofs.Theorem.Same.{every_next}
+use Rattle.acceptance.specs.Theorem.Same.{every_next}
 use Rattle.acceptance.proofs.compare.all_hold.Goals as goal
 
 -- ---- laws

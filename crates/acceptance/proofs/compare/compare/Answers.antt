@@ -14,7 +14,7 @@ use Rattle.acceptance.specs.declared.compare.Verdict.{Verdict}
 use Rattle.acceptance.specs.Inner.Comparing.{compared}
 use Rattle.acceptance.specs.Inner.Expected.{expected}
 use Rattle.acceptance.specs.Inner.Lengths.{Lengths}
-use Rattle.acceptance.proofs.Theorem.Answered.{always}
+use Rattle.acceptance.specs.Theorem.Answered.{always}
 use Rattle.acceptance.proofs.compare.compare.Goals as goal
 
 -- the first n of what is made for 64 settings

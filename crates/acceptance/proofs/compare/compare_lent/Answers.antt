@@ -5,7 +5,7 @@ use native.Mathlib.Omega.{arith}
 use lib.ListN.{length}
 use Rattle.shared.specs.Lent.{tally}
 use Rattle.acceptance.specs.Inner.Comparing.{starts}
-use Rattle.acceptance.proofs.Theorem.Compared.{shared_refused, shared_ended}
+use Rattle.acceptance.specs.Theorem.Compared.{shared_refused, shared_ended}
 use Rattle.acceptance.proofs.compare.compare_lent.Goals as goal
 
 pub returns-in-Refused : goal.returns-in-Refused

@@ -1,6 +1,6 @@
 -- `setting_holds` meets its contract, which has the same three cases.
 use mathlib.Core.Path.{sym, ◌∙◌}
-use Rattle.acceptance.proofs.Theorem.Compared.{too_few, holds_inside, holds_outside}
+use Rattle.acceptance.specs.Theorem.Compared.{too_few, holds_inside, holds_outside}
 use Rattle.acceptance.proofs.compare.setting_holds.Goals as goal
 
 pub returns-then-visits-p : goal.returns-then-visits-p

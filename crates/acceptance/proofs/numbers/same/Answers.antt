@@ -8,7 +8,7 @@ use lib.IntN.{ℤ}
 use lib.ListN.{length}
 use borrow.Author.Tests.{eq-eqb, ne_eqb}
 use Rattle.acceptance.specs.Inner.Comparing.{every, same_at, same_numbers}
-use Rattle.acceptance.proofs.Theorem.Same.{every_false, every_next}
+use Rattle.acceptance.specs.Theorem.Same.{every_false, every_next}
 use Rattle.acceptance.proofs.Bits.{bits_same, bits_differ}
 use Rattle.acceptance.proofs.numbers.same.Goals as goal
 
