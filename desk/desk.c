@@ -1,8 +1,8 @@
 /* An example for programs in C: the overheat routine read from its written form and listed back, checked, run in all its settings at once, and once more in
    setting 3 alone. From the repository's folder:
-     rt staticlib calls
+     .ci/archive calls
      gcc -std=c11 -Iinclude -o target/desk desk/desk.c target/staticlib/libcalls.a && target/desk
-   (.ci/c-run calls desk/desk.c does this, and on Arm cross-compiles and emulates.) It ends with status 1 where an answer is not the one it must be. */
+   (.ci/c-run calls desk/desk.c does this.) It ends with status 1 where an answer is not the one it must be. */
 #include "bench.h"
 #include <stdio.h>
 #include <stdlib.h>

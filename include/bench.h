@@ -1,5 +1,5 @@
 /* The guard bench for programs in C: a check of a routine image, the settings of a condition, a routine configured for one setting, a plain run, the
-   run of one hall, a run over a set of settings, the report, and a routine's written form read and listed. Link with target/staticlib/libcalls.a (rt staticlib
+   run of one hall, a run over a set of settings, the report, and a routine's written form read and listed. Link with target/staticlib/libcalls.a (.ci/archive
    calls). desk/desk.c is an example. crates/calls/src/lib.rt says what each call is proved to do.
 
    What is lent to a call is a pointer and the number of elements behind it. No two slices of one call may overlap. Besides that a call asks nothing of its

@@ -1,5 +1,5 @@
 /* Sets of settings for programs in C. A set is a 64-bit number: bit s stands for setting s. Option k is on in setting s exactly when bit k of s is one.
-   Link with target/staticlib/libsets.a (rt staticlib sets). No function asks anything of its caller. crates/sets/src/panel.rt says what each is proved to
+   Link with target/staticlib/libsets.a (.ci/archive sets). No function asks anything of its caller. crates/sets_c/src/lib.rt says what each is proved to
    give; panel/panel.c calls them all. */
 #ifndef GUARD_BENCH_SETS_H
 #define GUARD_BENCH_SETS_H

@@ -1,8 +1,7 @@
-/* Panel software calls the sets of settings from C. On x86-64, from the repository's folder:
-     rt staticlib sets
+/* Panel software calls the sets of settings from C. From the repository's folder:
+     .ci/archive sets
      gcc -std=c11 -Iinclude -Wall -Wextra -o target/panel panel/panel.c target/staticlib/libsets.a && target/panel
-   (.ci/c-run sets panel/panel.c does this, and on Arm cross-compiles and emulates.) It prints `panel: ok` and ends with status 0, or prints each check
-   that failed and ends with status 1. */
+   (.ci/c-run sets panel/panel.c does this.) It prints `panel: ok` and ends with status 0, or prints each check that failed and ends with status 1. */
 #include "sets.h"
 #include <stdio.h>
 

@@ -4,7 +4,7 @@
 routines() { for file in routines/*.txt; do basename "$file" .txt; done; }
 
 # digits ROUTINE: the hexadecimal digits of its image
-digits() { $(.ci/x86) target/bin/reader <"routines/$1.txt" | hex; }
+digits() { target/bin/reader <"routines/$1.txt" | hex; }
 
 # hex: the hexadecimal digits of standard input
 hex() { xxd -p | tr -d '\n'; }

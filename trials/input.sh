@@ -3,7 +3,7 @@
 tried=0 failed=0
 
 # the program, with ten seconds to end or so many as are given; the command, with all that it says; what came back is as expected
-run() { timeout "${1:-10}" $(.ci/x86) "target/bin/$program" || echo "status $?"; }
+run() { timeout "${1:-10}" "target/bin/$program" || echo "status $?"; }
 bench() { ./bench "$program" "$@" 2>&1 || echo "status $?"; }
 is() {
     tried=$((tried + 1))
