@@ -11,6 +11,9 @@ use Rattle.image.specs.Check.{shape_of}
 use Rattle.image.proofs.Theorem.Held.{root_class}
 use Rattle.plain.specs.Inner.Progress.{outcome_from, Proper}
 use Rattle.plain.proofs.Plainly as plainly
+use Rattle.plain.proofs.run_accepted.Lts as lts
+use Rattle.plain.proofs.run_accepted.Reads as reads
+use Rattle.plain.proofs.run_accepted.Tie as tie
 use Rattle.plain.proofs.run_accepted.Goals as goal
 
 -- what an accepted image's shape tells
@@ -23,8 +26,12 @@ module _ (l : List ℕ) {shape : Shape} (is_shape : shape ≡ shape_of l) where
   unfolding shape_of
   nodes_are = ap (λ (h : Shape). h.nodes) is_shape
 
+-- what the code's test says where it holds
+over : (c : lts.Then1 tie.the-claims reads.Pre reads.Post) → 100000 < c.args.budget
+over c = omega arith
+
 pub returns-then-budget-gt-LARGEST_BUDGET : goal.returns-then-budget-gt-LARGEST_BUDGET
-returns-then-budget-gt-LARGEST_BUDGET c = plainly.over_budget _ _ _ _ (omega arith)
+returns-then-budget-gt-LARGEST_BUDGET c = plainly.over_budget _ _ _ _ (over c.before)
 
 pub returns-then-numbers-ne16 : goal.returns-then-numbers-ne16
 returns-then-numbers-ne16 c = plainly.wrong_length _ _ _ _ (omega arith) (omega arith)

@@ -1,7 +1,7 @@
 -- `put_signed` meets its contract: of the bits below 2 ^ 31 their digits, of the others a minus and the digits of what is left to 2 ^ 32.
 use mathlib.Core.Path.{◌≡◌, ◌∙◌, ap}
 use mathlib.Core.List.{◌∷◌}
-use Prim.Native.Nat.{◌-◌}
+use Prim.Native.Nat.{◌-◌, ◌<◌, ◌≤◌}
 use native.Mathlib.Omega.{arith}
 use lib.ListN.{length, length-set}
 use mir.Facts.{to_z-of_z}
@@ -9,18 +9,28 @@ use Rattle.imp.specs.Numbers.{low32}
 use Rattle.text.specs.Decimal.{decimal, signed_decimal}
 use Rattle.text.proofs.Putting.{then, byte, same}
 use Rattle.text.proofs.Signs.{plain, minus}
+use Rattle.text.proofs.decimal.put_signed.Lts as lts
+use Rattle.text.proofs.decimal.put_signed.Reads as reads
+use Rattle.text.proofs.decimal.put_signed.Tie as tie
 use Rattle.text.proofs.decimal.put_signed.Goals as goal
 use Rattle.text.proofs.decimal.put_signed.Goals.{Then-n-lt2147483648, Else-n-lt2147483648}
+
+-- what the code's test says on either side
+few : (c : lts.Then1 tie.the-claims reads.Pre reads.Post) → c.bits-n.result < 2147483648
+few c = omega arith
+
+many : (c : lts.Else1 tie.the-claims reads.Pre reads.Post) → 2147483648 ≤ c.bits-n.result
+many c = omega arith
 
 below : (c : Then-n-lt2147483648) → decimal c.bits-n.result ≡ signed_decimal c.args.z
 below c =
     let bits_are : c.bits-n.result ≡ low32 c.args.z = c.bits-n.ensures ∙ ap low32 (to_z-of_z c.ranges.z) in
-    ap decimal bits_are ∙ plain c.args.z c.ranges.z (omega (arith, bits_are, c.if-n-lt2147483648.true))
+    ap decimal bits_are ∙ plain c.args.z c.ranges.z (omega (arith, bits_are, few c.before))
 
 above : (c : Else-n-lt2147483648) → 45 ∷ decimal (4294967296 - c.bits-n.result) ≡ signed_decimal c.args.z
 above c =
     let bits_are : c.bits-n.result ≡ low32 c.args.z = c.bits-n.ensures ∙ ap low32 (to_z-of_z c.ranges.z) in
-    ap (λ n. 45 ∷ decimal (4294967296 - n)) bits_are ∙ minus c.args.z c.ranges.z (omega (arith, bits_are, c.if-n-lt2147483648.false))
+    ap (λ n. 45 ∷ decimal (4294967296 - n)) bits_are ∙ minus c.args.z c.ranges.z (omega (arith, bits_are, many c))
 
 pub put_decimal-requires : goal.put_decimal-requires
 put_decimal-requires c =
