@@ -1,3 +1,4 @@
 -- Laws for the proofs of this crate's functions.
-pub mod Bits
+pub mod Equal
+pub mod Seen
 pub mod Theorem

@@ -1,12 +1,13 @@
 -- Condition 1: "Every image, set, budget and buffer length gets an answer; no call relies on an earlier check; a refusal has its number and place and
 -- changes nothing." Of each of the nine calls, for every input and whatever keeps the call's promise.
-use Rattle.std.specs.Prelude.{◌≡◌, refl, List, [], ◌∷◌, ◌++◌, ◌↔◌, ◌⊎◌, ℕ, ◌^◌, ◌≤◌, ◌<◌, ℤ, length}
+use Rattle.std.specs.Prelude.{◌≡◌, refl, List, [], ◌∷◌, ◌++◌, ◌↔◌, ◌⊎◌, ℕ, ◌^◌, ◌≤◌, ◌<◌, ℤ, length, Result, Ok, Err}
+use Rattle.sets.specs.declared.Set.{Set}
 use Rattle.imp.specs.Condition.{Condition}
 use Rattle.imp.specs.Routine.{Statement}
 use Rattle.imp.specs.State.{Numbers}
 use Rattle.imp.specs.Shared.{Shared}
-use Rattle.image.specs.declared.accept.Checked.{Checked}
-use Rattle.image.specs.declared.conditions.ConditionSet.{ConditionSet}
+use Rattle.image.specs.declared.refusals.Refusal.{Refusal}
+use Rattle.image.specs.declared.accept.Shape.{Shape}
 use Rattle.image.specs.Bytes.{Bytes, over}
 use Rattle.image.specs.Check.{answer_of, shape_of}
 use Rattle.image.specs.Rows.{Row, Answer, refused, answer, judge, written, check_rows, NoneFails, Given, numbers, then}
@@ -16,19 +17,15 @@ use Rattle.written.specs.Limits.{Refused18}
 use Rattle.written.specs.Image.{written_image}
 use Rattle.written.specs.Told.{Holds, Told}
 use Rattle.written.proofs.Theorem.ToldOne.{told_some}
-use Rattle.reading.specs.declared.write.ReadText.{ReadText}
-use Rattle.reading.specs.Reads.{read_answer, ReadsText}
-use Rattle.listing.specs.declared.Listed.{Listed}
-use Rattle.listing.specs.Lists.{list_rows, list_answer, Lists}
-use Rattle.configure.specs.declared.Configured.{Configured}
-use Rattle.configure.specs.Configured.{configure_rows, configure_answer, Configures}
-use Rattle.plain.specs.declared.PlainRun.{PlainRun}
-use Rattle.plain.specs.PlainRun.{plain_rows, hall_rows, plain_answer, RunsIn, Runs}
-use Rattle.shared.specs.declared.SharedRun.{SharedRun}
+use Rattle.reading.specs.Reads.{ReadsText}
+use Rattle.listing.specs.Lists.{list_rows, Lists}
+use Rattle.configure.specs.Configured.{configure_rows, Configures}
+use Rattle.plain.specs.declared.progress.Progress.{Progress}
+use Rattle.plain.specs.PlainRun.{plain_rows, hall_rows, RunsIn, Runs}
+use Rattle.shared.specs.declared.Ends.{Ends}
 use Rattle.shared.specs.Lent.{Tally}
-use Rattle.shared.specs.SharedRun.{ends_of, shared_rows, shared_answer, SharedRuns}
-use Rattle.lines.specs.declared.answer.Report.{Report}
-use Rattle.lines.specs.declared.answer.Report.TheVariants.{Text, Short}
+use Rattle.shared.specs.SharedRun.{ends_of, shared_rows, SharedRuns}
+use Rattle.lines.specs.declared.answer.Short.{Short}
 use Rattle.lines.specs.Report.{Reports}
 use Rattle.lines.specs.Text.{lines, last_line, refusal_line, set_in, budget_in, image_in, run_of, report_rows, text}
 use Rattle.acceptance.specs.Theorem.ByTable.{refusal_is, carried_is, decided, as_lent}
@@ -48,7 +45,7 @@ pub record ByTable {A M : Type 0} (rows : List Row) (a : Answer A) (lent left : 
   pub unchanged : (n p : ℕ) → Given rows n p → left ≡ lent
 
 -- a report was made of `input`, answered r and left out'
-pub record Reported (input out out' : Bytes) (r : Report) : Type 0 where
+pub record Reported (input out out' : Bytes) (r : Result ℕ Short) : Type 0 where
   -- "Every image, set, budget and buffer length gets an answer"
   pub answers : ((n : ℕ) × (p : ℕ) × Given (report_rows input) n p) ⊎ NoneFails (report_rows input)
   -- "A refusal prints one line, its number and place": of n and p, numbers of 64 bits, exactly when row n is the first to fail, at p
@@ -58,45 +55,45 @@ pub record Reported (input out out' : Bytes) (r : Report) : Type 0 where
       → let run : Shared = run_of (image_in input) (set_in input) (budget_in input) in
       text input ≡ lines (settings (image_in input)) run ++ last_line (ends_of (settings (image_in input)) run)
   -- the text is all that is written, and where it does not fit nothing is
-  pub written : length (text input) ≤ length out → (r ≡ Text (length (text input))) × (out' ≡ over (text input) out)
-  pub unchanged : length out < length (text input) → (r ≡ Short (length (text input))) × (out' ≡ out)
+  pub written : length (text input) ≤ length out → (r ≡ Ok (length (text input))) × (out' ≡ over (text input) out)
+  pub unchanged : length out < length (text input) → (r ≡ Err (record { 0 = length (text input) })) × (out' ≡ out)
 
 -- a text was read with `out` lent, answered r and left out'
-pub record ReadSo (text out out' : Bytes) (r : ReadText) : Type 0 where
+pub record ReadSo (text out out' : Bytes) (r : Result ℕ Refusal) : Type 0 where
   -- every text gets an answer, by the grammar alone
   pub answers : (a : Answer Bytes) × Told text (length out) a
   -- "17 text not of the grammar, at the first byte from which no continuation fits": exactly there, where no 18 is earlier
-  pub text_wrong : (p : ℕ) → (read_answer r ≡ refused 17 p) ↔ (Refused17 text p × ((q : ℕ) → Refused18 text q → p < q))
+  pub text_wrong : (p : ℕ) → (answer_of r ≡ refused 17 p) ↔ (Refused17 text p × ((q : ℕ) → Refused18 text q → p < q))
   -- "18 a whole word, number or bracket that opens node 1,025 or condition 257, at its first byte; the earlier byte decides"
-  pub too_many : (p : ℕ) → (read_answer r ≡ refused 18 p) ↔ (Refused18 text p × ((q : ℕ) → Refused17 text q → p < q))
+  pub too_many : (p : ℕ) → (answer_of r ≡ refused 18 p) ↔ (Refused18 text p × ((q : ℕ) → Refused17 text q → p < q))
   -- "14 last": the text is of the grammar and within the limits, and its image is longer than the space
-  pub no_space : (p : ℕ) → (read_answer r ≡ refused 14 p)
+  pub no_space : (p : ℕ) → (answer_of r ≡ refused 14 p)
       ↔ ((p ≡ 0) × ((F : ℕ) × (t : Statement Condition) × Holds text F t × (length out < length (written_image F t))))
   -- "in every other case the call is carried out"
-  pub carried_out : ((n : ℕ) × (read_answer r ≡ answer n))
+  pub carried_out : ((n : ℕ) × (answer_of r ≡ answer n))
       ↔ ((F : ℕ) × (t : Statement Condition) × Holds text F t × (length (written_image F t) ≤ length out))
   -- "and changes nothing"
-  pub unchanged : (n p : ℕ) → read_answer r ≡ refused n p → out' ≡ out
+  pub unchanged : (n p : ℕ) → answer_of r ≡ refused n p → out' ≡ out
 
 -- "no call relies on an earlier check": each promise is of every input
 pub record Condition1 : Type 0 where
   -- these two are lent nothing to write in
-  pub check : (l : Bytes) (r : Checked) → answer_of r ≡ judge (check_rows l) (shape_of l) → ByTable {M = Unit {0}} (check_rows l) (answer_of r) tt tt
-  pub condition_set : (l : Bytes) (k : ℕ) (r : ConditionSet) → set_answer r ≡ judge (condition_rows l k) (in_condition l k)
+  pub check : (l : Bytes) (r : Result Shape Refusal) → answer_of r ≡ judge (check_rows l) (shape_of l) → ByTable {M = Unit {0}} (check_rows l) (answer_of r) tt tt
+  pub condition_set : (l : Bytes) (k : ℕ) (r : Result Set Refusal) → set_answer r ≡ judge (condition_rows l k) (in_condition l k)
       → ByTable {M = Unit {0}} (condition_rows l k) (set_answer r) tt tt
-  pub configure : (l : Bytes) (s : ℕ) (out out' : Bytes) (r : Configured) → Configures (configure_rows l s (length out)) l s out out' r
-      → ByTable (configure_rows l s (length out)) (configure_answer r) out out'
-  pub plain_run : (l : Bytes) (budget : ℕ) (ns ns' : Numbers) (r : PlainRun) → Runs (plain_rows l budget (length ns)) l budget ns ns' r
-      → ByTable (plain_rows l budget (length ns)) (plain_answer r) ns ns'
-  pub one_hall : (l : Bytes) (s budget : ℕ) (ns ns' : Numbers) (r : PlainRun) → RunsIn s (hall_rows l s budget (length ns)) l budget ns ns' r
-      → ByTable (hall_rows l s budget (length ns)) (plain_answer r) ns ns'
-  pub shared_run : (l : Bytes) (set budget : ℕ) (xs xs' : List ℤ) (T T' : Tally) (r : SharedRun)
+  pub configure : (l : Bytes) (s : ℕ) (out out' : Bytes) (r : Result ℕ Refusal) → Configures (configure_rows l s (length out)) l s out out' r
+      → ByTable (configure_rows l s (length out)) (answer_of r) out out'
+  pub plain_run : (l : Bytes) (budget : ℕ) (ns ns' : Numbers) (r : Result Progress Refusal) → Runs (plain_rows l budget (length ns)) l budget ns ns' r
+      → ByTable (plain_rows l budget (length ns)) (answer_of r) ns ns'
+  pub one_hall : (l : Bytes) (s budget : ℕ) (ns ns' : Numbers) (r : Result Progress Refusal) → RunsIn s (hall_rows l s budget (length ns)) l budget ns ns' r
+      → ByTable (hall_rows l s budget (length ns)) (answer_of r) ns ns'
+  pub shared_run : (l : Bytes) (set budget : ℕ) (xs xs' : List ℤ) (T T' : Tally) (r : Result Ends Refusal)
       → SharedRuns (shared_rows l set budget xs T) l set budget xs T xs' T' r
-      → ByTable {M = List ℤ × Tally} (shared_rows l set budget xs T) (shared_answer r) (xs, T) (xs', T')
-  pub report : (input out out' : Bytes) (r : Report) → Reports (text input) out out' r → Reported input out out' r
-  pub read : (text out out' : Bytes) (r : ReadText) → ReadsText text out out' r → ReadSo text out out' r
-  pub list : (l out out' : Bytes) (r : Listed) → Lists (list_rows l (length out)) l out out' r
-      → ByTable (list_rows l (length out)) (list_answer r) out out'
+      → ByTable {M = List ℤ × Tally} (shared_rows l set budget xs T) (answer_of r) (xs, T) (xs', T')
+  pub report : (input out out' : Bytes) (r : Result ℕ Short) → Reports (text input) out out' r → Reported input out out' r
+  pub read : (text out out' : Bytes) (r : Result ℕ Refusal) → ReadsText text out out' r → ReadSo text out out' r
+  pub list : (l out out' : Bytes) (r : Result ℕ Refusal) → Lists (list_rows l (length out)) l out out' r
+      → ByTable (list_rows l (length out)) (answer_of r) out out'
   -- "Tests 1 to 8 go in that order": the numbers of each table
   pub check_order : (l : Bytes) → numbers (check_rows l) ≡ then []
   -- "Then: shared run 9, 10, 12; plain run 13, 10, 12; configuring 11, 14; set of a condition 15."

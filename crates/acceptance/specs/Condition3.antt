@@ -1,20 +1,16 @@
 -- Condition 3: "For each setting in the set, the shared run leaves the same numbers, outcome, code and steps as the plain run of the routine configured for it;
 -- outside the set nothing changes and the outcome is idle; visits are at least the largest step count and at most their sum." Of the calls, for every input and
 -- whatever keeps the call's promise.
-use Rattle.std.specs.Prelude.{◌≡◌, true, false, List, ℕ, ◌≤◌, ◌<◌, eqb, ℤ, pos, length, get_or, take}
+use Rattle.std.specs.Prelude.{◌≡◌, true, false, List, ℕ, ◌≤◌, ◌<◌, eqb, ℤ, pos, length, get_or, take, Result, Ok}
 use Rattle.sets.specs.Member.{bit, has}
 use Rattle.imp.specs.Shared.{total}
+use Rattle.image.specs.declared.refusals.Refusal.{Refusal}
 use Rattle.image.specs.Bytes.{Bytes}
 use Rattle.image.specs.Sets.{settings}
-use Rattle.configure.specs.declared.Configured.{Configured}
-use Rattle.configure.specs.declared.Configured.TheVariants.{Length}
 use Rattle.configure.specs.Configured.{configure_rows, Configures}
 use Rattle.plain.specs.declared.progress.Progress.{Progress}
-use Rattle.plain.specs.declared.PlainRun.{PlainRun}
-use Rattle.plain.specs.declared.PlainRun.TheVariants as Plain
 use Rattle.plain.specs.PlainRun.{plain_rows, hall_rows, RunsIn, Runs}
 use Rattle.shared.specs.declared.Ends.{Ends}
-use Rattle.shared.specs.declared.SharedRun.TheVariants.{Ended}
 use Rattle.shared.specs.Lent.{Tally, progress, part}
 use Rattle.shared.specs.SharedRun.{shared_rows, SharedRuns}
 use Rattle.acceptance.specs.Theorem.InTurn.{as_run}
@@ -29,16 +25,16 @@ idle = record { outcome = 0; code = pos 0; steps = 0 }
 pub record Condition3 (l : Bytes) (set budget : ℕ) (xs xs' : List ℤ) (T' : Tally) (e : Ends) : Type 0 where
   -- "For each setting in the set, the shared run leaves the same numbers, outcome, code and steps as the plain run of the routine configured for it": the run of
   -- one hall, from the setting's part of the store, is carried out
-  pub inside : (s : ℕ) → bit set s ≡ true → (ns' : List ℤ) (r : PlainRun)
-      → RunsIn s (hall_rows l s budget (length (part xs s))) l budget (part xs s) ns' r → (r ≡ Plain.Ended (progress T' s)) × (ns' ≡ part xs' s)
+  pub inside : (s : ℕ) → bit set s ≡ true → (ns' : List ℤ) (r : Result Progress Refusal)
+      → RunsIn s (hall_rows l s budget (length (part xs s))) l budget (part xs s) ns' r → (r ≡ Ok (progress T' s)) × (ns' ≡ part xs' s)
   -- the same by the two calls that one hall's joins: configuring for a setting in the set is carried out, with space for the longest image
-  pub written : (s : ℕ) → bit set s ≡ true → (out out' : Bytes) (r : Configured) → 8200 ≤ length out
-      → Configures (configure_rows l s (length out)) l s out out' r → (n : ℕ) × (r ≡ Length n)
+  pub written : (s : ℕ) → bit set s ≡ true → (out out' : Bytes) (r : Result ℕ Refusal) → 8200 ≤ length out
+      → Configures (configure_rows l s (length out)) l s out out' r → (n : ℕ) × (r ≡ Ok n)
   -- and so is a plain run of the image that configuring wrote
   pub written_inside : (s : ℕ) → bit set s ≡ true
-      → (out out' : Bytes) (n : ℕ) → Configures (configure_rows l s (length out)) l s out out' (Length n)
-      → (ns' : List ℤ) (r : PlainRun) → Runs (plain_rows (take n out') budget (length (part xs s))) (take n out') budget (part xs s) ns' r
-      → (r ≡ Plain.Ended (progress T' s)) × (ns' ≡ part xs' s)
+      → (out out' : Bytes) (n : ℕ) → Configures (configure_rows l s (length out)) l s out out' (Ok n)
+      → (ns' : List ℤ) (r : Result Progress Refusal) → Runs (plain_rows (take n out') budget (length (part xs s))) (take n out') budget (part xs s) ns' r
+      → (r ≡ Ok (progress T' s)) × (ns' ≡ part xs' s)
   -- "outside the set nothing changes and the outcome is idle"
   pub outside : (s : ℕ) → s < settings l → bit set s ≡ false → (progress T' s ≡ idle) × (part xs' s ≡ part xs s)
   -- "visits are at least the largest step count and at most their sum"
@@ -51,7 +47,7 @@ pub record Condition3 (l : Bytes) (set budget : ℕ) (xs xs' : List ℤ) (T' : T
   pub is_out : (s : ℕ) → has e.out s ≡ eqb (get_or T'.outcomes s 0) 3
 
 pub condition_3 : (l : Bytes) (set budget : ℕ) (xs xs' : List ℤ) (T T' : Tally) (e : Ends)
-    → SharedRuns (shared_rows l set budget xs T) l set budget xs T xs' T' (Ended e) → Condition3 l set budget xs xs' T' e
+    → SharedRuns (shared_rows l set budget xs T) l set budget xs T xs' T' (Ok e) → Condition3 l set budget xs xs' T' e
 condition_3 l set budget xs xs' T T' e ran = record {
   inside = in_the_set ran;
   written = carried_out ran;

@@ -1,9 +1,11 @@
 -- "Checked by hand": cases (a) to (j) from the bytes of an image to what comes back of the calls, and with (o) to (q) every kind of node and condition, as one
 -- table that the checker computes.
 use Rattle.std.specs.Prelude.{◌≡◌, refl, List, [], ◌∷◌, ◌++◌, map, ℕ, ◌*◌, ℤ, pos, negsuc, length, drop, replicate}
+use Rattle.std.specs.Prelude as Std
 use Rattle.std.proofs.Common.{◌∙◌}
 use Rattle.std.proofs.Math.Option.{some}
 use Rattle.std.proofs.Math.ListN.{get_elem?}
+use Rattle.sets.specs.declared.Set.{Set}
 use Rattle.sets.specs.Member.{digit, bit}
 use Rattle.imp.specs.Condition.{on_in, holds}
 use Rattle.imp.specs.Configure as Imp
@@ -14,9 +16,8 @@ use Rattle.imp.specs.Plain as Plainly
 use Rattle.imp.specs.Plain.{value, handled, run}
 use Rattle.imp.specs.Shared as Sharing
 use Rattle.imp.specs.Shared.{value_in, any, for, visited, where_true, where_false, begun, turns, start, beyond}
+use Rattle.image.specs.declared.refusals.Refusal.{Refusal}
 use Rattle.image.specs.declared.accept.Shape.{Shape}
-use Rattle.image.specs.declared.accept.Checked.{Checked}
-use Rattle.image.specs.declared.conditions.ConditionSet.{ConditionSet}
 use Rattle.image.specs.Bytes.{Bytes, number_at, over}
 use Rattle.image.specs.Check.{answer_of, shape_of}
 use Rattle.image.specs.Records.{nodes_from, header, condition_record, node}
@@ -26,19 +27,16 @@ use Rattle.image.specs.Sets.{settings, in_condition, condition_rows, set_answer}
 use Rattle.image.specs.Tree.{condition_kind, condition_reading, condition_below, condition, kind_of, reading, read_below, read, routine}
 use Rattle.image.specs.Term.{size, name, head_word, node_word, words, bytes_of, all_bytes, term_image}
 use Rattle.image.specs.Encode.{termᵃ, termˢ, plain_image}
-use Rattle.configure.specs.declared.Configured.{Configured}
-use Rattle.configure.specs.Configured.{configured, space_rows, configure_rows, configure_answer, Configures}
+use Rattle.configure.specs.Configured.{configured, space_rows, configure_rows, Configures}
 use Rattle.image.proofs.Theorem.RoutineH.{H}
 use Rattle.configure.specs.Theorem.Vectors.{H-1}
 use Rattle.plain.specs.declared.progress.Progress.{Progress}
-use Rattle.plain.specs.declared.PlainRun.{PlainRun}
 use Rattle.plain.specs.PlainRun as Plain
-use Rattle.plain.specs.PlainRun.{progress_of, lent_rows, plain_rows, hall_rows, plain_answer, RunsIn, Runs}
+use Rattle.plain.specs.PlainRun.{progress_of, lent_rows, plain_rows, hall_rows, RunsIn, Runs}
 use Rattle.shared.specs.declared.Ends.{Ends}
 use Rattle.shared.specs.Lent.{Tally, tally, part}
-use Rattle.shared.specs.declared.SharedRun.{SharedRun}
 use Rattle.shared.specs.SharedRun as Shared
-use Rattle.shared.specs.SharedRun.{each, numbers_of, tally_of, set_of, ends_of, exact, set_rows, shared_rows, shared_answer, SharedRuns}
+use Rattle.shared.specs.SharedRun.{each, numbers_of, tally_of, set_of, ends_of, exact, set_rows, shared_rows, SharedRuns}
 use Rattle.acceptance.specs.Theorem.Images.{G, L, I, J, E, S}
 use Rattle.acceptance.specs.Theorem.Calls.{Call, shared_run, plain_run, one_hall, configure, check, condition_set, Result, shared, plain, configuring, checking, asking, bits_of, comes_back, case, Case, Holds, Hold, row_of, shared_kept, plain_kept, hall_kept, configuring_kept, checking_kept, asking_kept}
 
@@ -193,41 +191,41 @@ row = row_of table checked
 -- ---- whatever keeps the promise of a row's call is what the row says
 
 module _ (k : ℕ) where
-  pub shared_row : {l : Bytes} {set budget : ℕ} {xs xs' ys : List ℤ} {T T' U : Tally} {r : SharedRun} {a : Answer Ends}
+  pub shared_row : {l : Bytes} {set budget : ℕ} {xs xs' ys : List ℤ} {T T' U : Tally} {r : Std.Result Ends Refusal} {a : Answer Ends}
       → get_elem? table k ≡ some (case (shared_run l set budget xs T) (shared a ys U))
-      → SharedRuns (shared_rows l set budget xs T) l set budget xs T xs' T' r → (shared_answer r ≡ a) × (xs' ≡ ys) × (T' ≡ U)
+      → SharedRuns (shared_rows l set budget xs T) l set budget xs T xs' T' r → (answer_of r ≡ a) × (xs' ≡ ys) × (T' ≡ U)
   shared_row {xs' = xs'} {ys = ys} {T' = T'} {U = U} {r = r} {a = a} at ran =
-      let same : shared (shared_answer r) xs' T' ≡ shared a ys U = shared_kept ran ∙ row k _ at in
+      let same : shared (answer_of r) xs' T' ≡ shared a ys U = shared_kept ran ∙ row k _ at in
       (cc, cc, cc)
 
-  pub plain_row : {l : Bytes} {budget : ℕ} {ns ns' ms : Numbers} {r : PlainRun} {a : Answer Progress}
+  pub plain_row : {l : Bytes} {budget : ℕ} {ns ns' ms : Numbers} {r : Std.Result Progress Refusal} {a : Answer Progress}
       → get_elem? table k ≡ some (case (plain_run l budget ns) (plain a ms))
-      → Runs (plain_rows l budget (length ns)) l budget ns ns' r → (plain_answer r ≡ a) × (ns' ≡ ms)
+      → Runs (plain_rows l budget (length ns)) l budget ns ns' r → (answer_of r ≡ a) × (ns' ≡ ms)
   plain_row {ns' = ns'} {ms = ms} {r = r} {a = a} at ran =
-      let same : plain (plain_answer r) ns' ≡ plain a ms = plain_kept ran ∙ row k _ at in
+      let same : plain (answer_of r) ns' ≡ plain a ms = plain_kept ran ∙ row k _ at in
       (cc, cc)
 
-  pub hall_row : {l : Bytes} {s budget : ℕ} {ns ns' ms : Numbers} {r : PlainRun} {a : Answer Progress}
+  pub hall_row : {l : Bytes} {s budget : ℕ} {ns ns' ms : Numbers} {r : Std.Result Progress Refusal} {a : Answer Progress}
       → get_elem? table k ≡ some (case (one_hall l s budget ns) (plain a ms))
-      → RunsIn s (hall_rows l s budget (length ns)) l budget ns ns' r → (plain_answer r ≡ a) × (ns' ≡ ms)
+      → RunsIn s (hall_rows l s budget (length ns)) l budget ns ns' r → (answer_of r ≡ a) × (ns' ≡ ms)
   hall_row {ns' = ns'} {ms = ms} {r = r} {a = a} at ran =
-      let same : plain (plain_answer r) ns' ≡ plain a ms = hall_kept ran ∙ row k _ at in
+      let same : plain (answer_of r) ns' ≡ plain a ms = hall_kept ran ∙ row k _ at in
       (cc, cc)
 
-  pub configuring_row : {l : Bytes} {s : ℕ} {out out' m : Bytes} {r : Configured} {a : Answer ℕ}
+  pub configuring_row : {l : Bytes} {s : ℕ} {out out' m : Bytes} {r : Std.Result ℕ Refusal} {a : Answer ℕ}
       → get_elem? table k ≡ some (case (configure l s out) (configuring a m))
-      → Configures (configure_rows l s (length out)) l s out out' r → (configure_answer r ≡ a) × (out' ≡ m)
+      → Configures (configure_rows l s (length out)) l s out out' r → (answer_of r ≡ a) × (out' ≡ m)
   configuring_row {out' = out'} {m = m} {r = r} {a = a} at wrote =
-      let same : configuring (configure_answer r) out' ≡ configuring a m = configuring_kept wrote ∙ row k _ at in
+      let same : configuring (answer_of r) out' ≡ configuring a m = configuring_kept wrote ∙ row k _ at in
       (cc, cc)
 
-  pub checking_row : (l : Bytes) (r : Checked) {a : Answer Shape}
+  pub checking_row : (l : Bytes) (r : Std.Result Shape Refusal) {a : Answer Shape}
       → get_elem? table k ≡ some (case (check l) (checking a)) → answer_of r ≡ judge (check_rows l) (shape_of l) → answer_of r ≡ a
   checking_row l r {a = a} at answered =
       let same : checking (answer_of r) ≡ checking a = checking_kept l r answered ∙ row k _ at in
       cc
 
-  pub asking_row : (l : Bytes) (n : ℕ) (r : ConditionSet) {a : Answer ℕ}
+  pub asking_row : (l : Bytes) (n : ℕ) (r : Std.Result Set Refusal) {a : Answer ℕ}
       → get_elem? table k ≡ some (case (condition_set l n) (asking a)) → set_answer r ≡ judge (condition_rows l n) (in_condition l n)
       → bits_of (set_answer r) ≡ a
   asking_row l n r {a = a} at answered =

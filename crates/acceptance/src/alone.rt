@@ -1,16 +1,10 @@
 // One setting by itself: the run of one hall.
 ghost use Rattle.std.specs.Prelude.{◌≡◌, ◌<◌};
-ghost use Rattle.acceptance.specs.Inner.Comparing.{same_progress, agrees, stays};
+ghost use Rattle.acceptance.specs.Inner.Comparing.{agrees, stays};
 
-use crate::numbers::{fill, same};
+use crate::numbers::fill;
+use plain::one_hall;
 use plain::progress::{IDLE, Progress};
-use plain::{PlainRun, one_hall};
-
-fn equal(p: Progress, q: Progress) -> bool
-    ensures { result ≡ same_progress p q }
-{
-    (p.outcome == q.outcome) & ((p.code == q.code) & (p.steps == q.steps))
-}
 
 // "the same numbers, outcome, code and steps as the plain run of the routine configured for it".
 pub fn agrees(image: &[u8], s: usize, budget: u32, p: Progress, left: &[i32]) -> bool
@@ -20,8 +14,8 @@ pub fn agrees(image: &[u8], s: usize, budget: u32, p: Progress, left: &[i32]) ->
     let mut numbers = [0i32; 16];
     fill(s * 16, &mut numbers);
     match one_hall(image, s as u64, budget, &mut numbers) {
-        PlainRun::Refused(_) => false,
-        PlainRun::Ended(q) => equal(p, q) & same(&numbers, left),
+        Ok(q) => (p == q) & (numbers.as_slice() == left),
+        Err(_) => false,
     }
 }
 
@@ -37,5 +31,5 @@ pub fn untouched(s: usize, p: Progress, left: &[i32]) -> bool
         code: 0,
         steps: 0,
     };
-    equal(p, idle) & same(&numbers, left)
+    (p == idle) & (numbers.as_slice() == left)
 }

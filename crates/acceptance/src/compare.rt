@@ -9,10 +9,10 @@ ghost use Rattle.acceptance.specs.Inner.Expected.{expected};
 
 use crate::alone::{agrees, untouched};
 use crate::numbers::fill;
-use image::accept::{Checked, check};
+use image::accept::check;
 use plain::progress::Progress;
 use sets::Set;
-use shared::{SharedRun, shared_run};
+use shared::shared_run;
 
 #[derive(Clone, Copy)]
 pub struct Compared {
@@ -21,24 +21,19 @@ pub struct Compared {
     pub holds: bool,
 }
 
-#[derive(Clone, Copy)]
-pub enum Verdict {
-    Refused,
-    Of(Compared),
-}
-
 // The settings of an image: 0 where the check refuses it.
 fn settings(image: &[u8]) -> usize
     ensures upper_bound { result ≤ 64 }
     ensures value { result ≡ written (check_rows image.now) (settings image.now) 0 }
 {
     match check(image) {
-        Checked::Refused(_) => 0,
-        Checked::Good(shape) => 1usize << shape.options,
+        Ok(shape) => 1 << shape.options,
+        Err(_) => 0,
     }
 }
 
 // Setting s inside the set is as its plain run and outside untouched, and "visits are at least the largest step count".
+#[tactic(auto, unfolding(crate::specs::Inner::Comparing::setting_holds))]
 fn setting_holds(
     image: &[u8],
     set: Set,
@@ -77,19 +72,17 @@ fn all_hold(
 {
     let mut sum: u64 = 0;
     let mut good = true;
-    for s in 0..outcomes.len() {
-        let at = s * 16;
-        let end = at + 16;
+    for (s, left) in store.chunks_exact(16).enumerate() {
         let p = Progress {
             outcome: outcomes[s],
             code: codes[s],
             steps: steps[s],
         };
-        let holds = setting_holds(image, set, budget, visits, s, p, &store[at..end]);
-        good = good & holds;
-        sum += p.steps as u64;
+        let holds = setting_holds(image, set, budget, visits, s, p, left);
+        good &= holds;
+        sum += u64::from(p.steps);
     }
-    good & (visits as u64 <= sum)
+    good & (u64::from(visits) <= sum)
 }
 
 // The runs, on slices of the right lengths.
@@ -101,29 +94,25 @@ fn compare_lent(
     outcomes: &mut [u8],
     codes: &mut [i32],
     steps: &mut [u32],
-) -> Verdict
+) -> Option<Compared>
     requires { Lengths (length outcomes.old) (length store.old) (length codes.old) (length steps.old) }
     ensures { result ≡ compared (length outcomes.old) image.now set.bits budget
         (tally outcomes.old codes.old steps.old) }
 {
     let n = outcomes.len();
     fill(0, store);
-    match shared_run(image, set, budget, store, outcomes, codes, steps) {
-        SharedRun::Refused(_) => Verdict::Refused,
-        SharedRun::Ended(ends) => {
-            let visits = ends.visits;
-            let holds = all_hold(image, set, budget, visits, store, outcomes, codes, steps);
-            Verdict::Of(Compared {
-                settings: n,
-                visits: visits,
-                holds: holds,
-            })
-        }
-    }
+    let ends = shared_run(image, set, budget, store, outcomes, codes, steps).ok()?;
+    let visits = ends.visits;
+    let holds = all_hold(image, set, budget, visits, store, outcomes, codes, steps);
+    Some(Compared {
+        settings: n,
+        visits,
+        holds,
+    })
 }
 
 // Condition 3 holds wherever the image, the set and the budget are not refused.
-pub fn compare(image: &[u8], set: Set, budget: u32) -> Verdict
+pub fn compare(image: &[u8], set: Set, budget: u32) -> Option<Compared>
     ensures { result ≡ expected image.now set.bits budget }
 {
     let mut store = [0i32; 1024];

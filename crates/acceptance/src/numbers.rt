@@ -1,10 +1,11 @@
-// The numbers that a store starts with, and whether numbers are the same.
+// The numbers that a store starts with.
 ghost use Rattle.std.specs.Prelude.{◌≡◌, ◌+◌, ◌≤◌, length};
-ghost use Rattle.acceptance.specs.Inner.Comparing.{same_numbers, first, starts};
+ghost use Rattle.acceptance.specs.Inner.Comparing.{first, starts};
 
 use imp::signed;
 
 // The number that place k of the store starts with, another one for each place: 0 and -2147483648 in setting 0, -1 and 2147483647 in setting 1.
+#[tactic(auto, unfolding(crate::specs::Inner::Comparing::first))]
 fn first(k: usize) -> i32
     ensures { result ≡ first k }
 {
@@ -17,21 +18,7 @@ pub fn fill(at: usize, numbers: &mut [i32])
     requires { at + length numbers.old ≤ 1024 }
     ensures { numbers.new ≡ starts at (length numbers.old) }
 {
-    for v in 0..numbers.len() {
-        numbers[v] = first(at + v);
+    for (v, number) in numbers.iter_mut().enumerate() {
+        *number = first(at + v);
     }
-}
-
-pub fn same(a: &[i32], b: &[i32]) -> bool
-    ensures { result ≡ same_numbers a.now b.now }
-{
-    if a.len() != b.len() {
-        return false;
-    }
-    for v in 0..a.len() {
-        if a[v] != b[v] {
-            return false;
-        }
-    }
-    true
 }

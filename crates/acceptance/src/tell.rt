@@ -1,29 +1,25 @@
 // A line for each routine: its number, and whether condition 3 holds of it. Where it cannot be written, nothing tells it.
-use crate::compare::{Compared, Verdict};
+use crate::compare::Compared;
+use std::fmt;
 
-fn tell_compared<R: Print>(rt: &R, c: Compared) {
-    let word = if c.holds { "holds" } else { "FAILS" };
-    let _ = println!(rt;
-        "{} settings, {} visits, condition 3 {word}",
-        c.settings, c.visits
-    );
-}
-
-fn tell_number<R: Print>(rt: &R, k: u64) {
-    let _ = print!(rt; "routine {k}: ");
-}
-
-pub fn tell<R: Print>(rt: &R, k: u64, verdict: Verdict) {
-    tell_number(rt, k);
-    match verdict {
-        Verdict::Refused => {
-            let _ = println!(rt; "refused");
-        }
-        Verdict::Of(c) => tell_compared(rt, c),
+impl fmt::Display for Compared {
+    fn fmt<W: fmt::Write>(&self, f: &mut fmt::Formatter<W>) -> fmt::Result {
+        let word = if self.holds { "holds" } else { "FAILS" };
+        write!(
+            f,
+            "{} settings, {} visits, condition 3 {word}",
+            self.settings, self.visits
+        )
     }
 }
 
+pub fn tell<R: Print>(rt: &R, k: u64, compared: Option<Compared>) {
+    let _ = match compared {
+        Some(c) => println!(rt; "routine {k}: {c}"),
+        None => println!(rt; "routine {k}: refused"),
+    };
+}
+
 pub fn tell_cut_short<R: Print>(rt: &R, k: u64) {
-    tell_number(rt, k);
-    let _ = println!(rt; "cut short");
+    let _ = println!(rt; "routine {k}: cut short");
 }

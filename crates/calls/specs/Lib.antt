@@ -4,4 +4,5 @@ pub mod Calls
 pub mod Space
 pub mod Shared
 pub mod Read
+pub mod Inner
 pub mod Theorem

@@ -12,12 +12,6 @@ use Rattle.calls.specs.Space.{where_right, Answers}
 abbrev pub read_reply : Answer Bytes → Reply
 read_reply told = reply length_reply (length_of told)
 
-pub record ReadSo (text out out' : Bytes) (r : Reply) : Type 0 where
-  pub told : Answer Bytes
-  pub by_grammar : Told text (length out) told
-  pub reply_is : r ≡ read_reply told
-  pub out_is : out' ≡ left_by told out
-
 pub record AnsweredRead (text out out' : Bytes) (space space' : List ℕ) (y : Bool) : Type 0 where
   pub told : Answer Bytes
   pub by_grammar : Told text (length out) told

@@ -1,5 +1,5 @@
 -- An answer as plain numbers: a refusal's number and place, or number 0 and the call's values.
-use Rattle.std.specs.Prelude.{ℕ, Bool, cond}
+use Rattle.std.specs.Prelude.{ℕ, Bool, cond, [], ◌∷◌}
 use Rattle.image.specs.declared.accept.Shape.{Shape}
 use Rattle.imp.specs.Numbers.{low32}
 use Rattle.plain.specs.declared.progress.Progress.{Progress}
@@ -8,10 +8,10 @@ use Rattle.image.specs.Rows.{Answer, refused, answer}
 use Rattle.calls.specs.declared.reply.Reply.{Reply}
 
 abbrev pub values : ℕ → ℕ → ℕ → Reply
-values x y z = record { number = 0; place = 0; first = x; second = y; third = z; fourth = 0; fifth = 0; sixth = 0 }
+values x y z = record { number = 0; place = 0; values = x ∷ y ∷ z ∷ 0 ∷ 0 ∷ 0 ∷ [] }
 
 abbrev pub reply : {A : Type 0} → (A → Reply) → Answer A → Reply
-reply of (refused n p) = record { number = n; place = p; first = 0; second = 0; third = 0; fourth = 0; fifth = 0; sixth = 0 }
+reply of (refused n p) = record { number = n; place = p; values = 0 ∷ 0 ∷ 0 ∷ 0 ∷ 0 ∷ 0 ∷ [] }
 reply of (answer x) = of x
 
 abbrev pub no_values : ℕ → Reply

@@ -19,11 +19,6 @@ store_left l set budget xs T = written (shared_rows l set budget xs T) (numbers_
 unfoldable pub tally_left : Bytes → ℕ → ℕ → List ℤ → Tally → Tally
 tally_left l set budget xs T = written (shared_rows l set budget xs T) (tally_of (settings l) (meant l set budget xs)) T
 
-pub record EndedAll (l : Bytes) (set budget : ℕ) (xs : List ℤ) (T : Tally) (xs' : List ℤ) (T' : Tally) (r : Reply) : Type 0 where
-  pub reply_is : r ≡ reply_all l set budget xs T
-  pub store_is : xs' ≡ store_left l set budget xs T
-  pub tally_is : T' ≡ tally_left l set budget xs T
-
 pub record AnsweredAll (l : Bytes) (set budget : ℕ) (xs : List ℤ) (T : Tally) (xs' : List ℤ) (T' : Tally) (space space' : List ℕ) (y : Bool) : Type 0 where
   pub answers : Answers space space' (reply_all l set budget xs T) y
   pub store_is : xs' ≡ where_right space (store_left l set budget xs T) xs

@@ -1,5 +1,5 @@
 -- The answer space that a caller lends: where it is right the call is carried out, else all is as it was.
-use Rattle.std.specs.Prelude.{◌≡◌, ℕ, Bool, cond, List, [], ◌∷◌, eqb, length}
+use Rattle.std.specs.Prelude.{◌≡◌, ℕ, Bool, cond, List, ◌∷◌, eqb, length}
 use Rattle.calls.specs.declared.reply.Reply.{Reply}
 
 -- number, place and six values
@@ -14,7 +14,7 @@ abbrev pub where_right : {A : Type 0} → List ℕ → A → A → A
 where_right space left old = cond (right space) left old
 
 abbrev pub all_numbers : Reply → List ℕ
-all_numbers r = r.number ∷ r.place ∷ r.first ∷ r.second ∷ r.third ∷ r.fourth ∷ r.fifth ∷ r.sixth ∷ []
+all_numbers r = r.number ∷ r.place ∷ r.values
 
 -- what is returned, and the answer space after the call
 pub record Answers (space space' : List ℕ) (r : Reply) (y : Bool) : Type 0 where

@@ -6,30 +6,47 @@ ghost use Rattle.shared.specs.Lent.{tally};
 ghost use Rattle.lines.specs.Text.{text};
 ghost use Rattle.calls.specs.Calls.{check_reply, condition_reply, configure_reply, configure_left, plain_reply, plain_left, hall_reply, hall_left, list_reply, list_left, text_reply, text_left};
 ghost use Rattle.calls.specs.Space.{where_right, Answers};
+ghost use Rattle.calls.specs.Inner.Asked.{Asked};
 ghost use Rattle.calls.specs.Read.{AnsweredRead};
 ghost use Rattle.calls.specs.Shared.{AnsweredAll};
 
-mod asked; // asked.rt: each call carried out
 mod reply; // reply.rt: an answer as eight numbers
 
-use asked::{checked, ended, ended_all, ended_in, listed, member, read_so, reported, written};
-use reply::fill;
+use configure::configure;
+use image::accept::check;
+use image::conditions::condition_set;
+use lines::report;
+use listing::list;
+use plain::{one_hall, plain_run};
+use reading::read;
+use reply::{Reply, fill};
+use sets::Set;
+use shared::shared_run;
 
 // How many numbers an answer has: number, place and six values.
 const ANSWER_LENGTH: usize = 8;
 
-// Every call below answers whether its answer space is right; where it is not, nothing is carried out.
+// Whether the answer space is right. Where it is, `ask` is carried out and its answer is in the space; where it is not, nothing is carried out.
+fn answered<T: Into<Reply>, E: Into<Reply>, F: FnMut() -> Result<T, E>>(
+    answer: &mut [usize],
+    ask: &mut F,
+) -> bool
+    requires { F.IsAlwaysCallable ask.old }
+    ensures { Asked (λ x f. F.step ask.old x f) T.converts E.converts answer.old answer.new
+        ask.old ask.new result }
+{
+    if answer.len() != ANSWER_LENGTH {
+        return false;
+    }
+    fill(ask().map_or_else(E::into, T::into), answer);
+    true
+}
 
 #[unsafe(no_mangle)]
 pub extern "C" fn bench_check(image: &[u8], answer: &mut [usize]) -> bool
     ensures { Answers answer.old answer.new (check_reply image.now) result }
 {
-    if answer.len() != ANSWER_LENGTH {
-        return false;
-    }
-    let r = checked(image);
-    fill(r, answer);
-    true
+    answered(answer, &mut || check(image))
 }
 
 #[unsafe(no_mangle)]
@@ -42,12 +59,10 @@ pub extern "C" fn bench_condition_has(
     ensures { Answers answer.old answer.new
         (condition_reply image.now condition s) result }
 {
-    if answer.len() != ANSWER_LENGTH {
-        return false;
-    }
-    let r = member(image, condition, s);
-    fill(r, answer);
-    true
+    answered(
+        answer,
+        &mut || condition_set(image, condition).map(|set| set.has(s)),
+    )
 }
 
 #[unsafe(no_mangle)]
@@ -62,12 +77,7 @@ pub extern "C" fn bench_configure(
     ensures out_after { out.new ≡ where_right answer.old
         (configure_left image.now setting out.old) out.old }
 {
-    if answer.len() != ANSWER_LENGTH {
-        return false;
-    }
-    let r = written(image, setting, out);
-    fill(r, answer);
-    true
+    answered(answer, &mut || configure(image, setting, out))
 }
 
 #[unsafe(no_mangle)]
@@ -82,12 +92,7 @@ pub extern "C" fn bench_plain_run(
     ensures numbers_after { numbers.new ≡ where_right answer.old
         (plain_left image.now budget numbers.old) numbers.old }
 {
-    if answer.len() != ANSWER_LENGTH {
-        return false;
-    }
-    let r = ended(image, budget, numbers);
-    fill(r, answer);
-    true
+    answered(answer, &mut || plain_run(image, budget, numbers))
 }
 
 #[unsafe(no_mangle)]
@@ -103,12 +108,7 @@ pub extern "C" fn bench_one_hall(
     ensures numbers_after { numbers.new ≡ where_right answer.old
         (hall_left image.now setting budget numbers.old) numbers.old }
 {
-    if answer.len() != ANSWER_LENGTH {
-        return false;
-    }
-    let r = ended_in(image, setting, budget, numbers);
-    fill(r, answer);
-    true
+    answered(answer, &mut || one_hall(image, setting, budget, numbers))
 }
 
 #[unsafe(no_mangle)]
@@ -125,12 +125,13 @@ pub extern "C" fn bench_shared_run(
     ensures { AnsweredAll image.now set budget store.old (tally outcomes.old codes.old steps.old)
         store.new (tally outcomes.new codes.new steps.new) answer.old answer.new result }
 {
-    if answer.len() != ANSWER_LENGTH {
-        return false;
-    }
-    let r = ended_all(image, set, budget, store, outcomes, codes, steps);
-    fill(r, answer);
-    true
+    answered(
+        answer,
+        &mut || {
+            let set = Set { bits: set };
+            shared_run(image, set, budget, store, outcomes, codes, steps)
+        },
+    )
 }
 
 #[unsafe(no_mangle)]
@@ -140,12 +141,7 @@ pub extern "C" fn bench_report(input: &[u8], out: &mut [u8], answer: &mut [usize
     ensures out_after { out.new ≡ where_right answer.old
         (text_left (text input.now) out.old) out.old }
 {
-    if answer.len() != ANSWER_LENGTH {
-        return false;
-    }
-    let r = reported(input, out);
-    fill(r, answer);
-    true
+    answered(answer, &mut || report(input, out))
 }
 
 #[unsafe(no_mangle)]
@@ -155,22 +151,12 @@ pub extern "C" fn bench_list(image: &[u8], out: &mut [u8], answer: &mut [usize])
     ensures out_after { out.new ≡ where_right answer.old
         (list_left image.now out.old) out.old }
 {
-    if answer.len() != ANSWER_LENGTH {
-        return false;
-    }
-    let r = listed(image, out);
-    fill(r, answer);
-    true
+    answered(answer, &mut || list(image, out))
 }
 
 #[unsafe(no_mangle)]
 pub extern "C" fn bench_read(text: &[u8], out: &mut [u8], answer: &mut [usize]) -> bool
     ensures { AnsweredRead text.now out.old out.new answer.old answer.new result }
 {
-    if answer.len() != ANSWER_LENGTH {
-        return false;
-    }
-    let r = read_so(text, out);
-    fill(r, answer);
-    true
+    answered(answer, &mut || read(text, out))
 }

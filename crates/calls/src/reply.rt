@@ -1,12 +1,14 @@
 // A reply: a call's answer as eight numbers.
-ghost use Rattle.std.specs.Prelude.{◌≡◌, length};
+ghost use Rattle.std.specs.Prelude.{◌≡◌, length, cond};
 ghost use Rattle.image.specs.Refusals.{number_of, place_of};
 ghost use Rattle.image.specs.Rows.{refused};
-ghost use Rattle.calls.specs.Reply.{reply, no_values, values, progress_reply, ends_reply};
+ghost use Rattle.calls.specs.Reply.{reply, no_values, values, shape_reply, length_reply, progress_reply, ends_reply};
 ghost use Rattle.calls.specs.Space.{answer_length, all_numbers};
 
-use image::refusals::{Refusal, number, place};
+use image::accept::Shape;
+use image::refusals::Refusal;
 use imp::bits;
+use lines::Short;
 use plain::progress::Progress;
 use shared::Ends;
 
@@ -15,27 +17,7 @@ use shared::Ends;
 pub struct Reply {
     pub number: usize,
     pub place: usize,
-    pub first: usize,
-    pub second: usize,
-    pub third: usize,
-    pub fourth: usize,
-    pub fifth: usize,
-    pub sixth: usize,
-}
-
-pub fn refused(r: Refusal) -> Reply
-    ensures { result ≡ reply no_values (refused (number_of r) (place_of r)) }
-{
-    Reply {
-        number: number(r) as usize,
-        place: place(r),
-        first: 0,
-        second: 0,
-        third: 0,
-        fourth: 0,
-        fifth: 0,
-        sixth: 0,
-    }
+    pub values: [usize; 6],
 }
 
 pub fn values(first: usize, second: usize, third: usize) -> Reply
@@ -44,29 +26,82 @@ pub fn values(first: usize, second: usize, third: usize) -> Reply
     Reply {
         number: 0,
         place: 0,
-        first: first,
-        second: second,
-        third: third,
-        fourth: 0,
-        fifth: 0,
-        sixth: 0,
+        values: [first, second, third, 0, 0, 0],
+    }
+}
+
+impl From<Refusal> for Reply {
+    ghost from_gives = { λ r y. y ≡ reply no_values (refused (number_of r) (place_of r)) };
+
+    fn from(r: Refusal) -> Reply {
+        Reply {
+            number: r.number() as usize,
+            place: r.place(),
+            values: [0; 6],
+        }
+    }
+}
+
+// The length of a text that the space was too short for, and 1.
+impl From<Short> for Reply {
+    ghost from_gives = { λ s y. y ≡ values s.0 1 0 };
+
+    fn from(s: Short) -> Reply {
+        values(s.0, 1, 0)
+    }
+}
+
+// F, C and P.
+impl From<Shape> for Reply {
+    ghost from_gives = { λ h y. y ≡ shape_reply h };
+
+    fn from(h: Shape) -> Reply {
+        values(h.options as usize, h.conditions, h.nodes)
+    }
+}
+
+// 1 for a member, else 0.
+impl From<bool> for Reply {
+    ghost from_gives = { λ is y. y ≡ values (cond is 1 0) 0 0 };
+
+    fn from(is: bool) -> Reply {
+        values(usize::from(is), 0, 0)
+    }
+}
+
+// The length of what was written.
+impl From<usize> for Reply {
+    ghost from_gives = { λ n y. y ≡ length_reply n };
+
+    fn from(n: usize) -> Reply {
+        values(n, 0, 0)
     }
 }
 
 // Outcome, code as 32 bits, and steps.
-pub fn progress(p: Progress) -> Reply
-    ensures { result ≡ progress_reply p }
-{
-    values(p.outcome as usize, bits(p.code) as usize, p.steps as usize)
+impl From<Progress> for Reply {
+    ghost from_gives = { λ p y. y ≡ progress_reply p };
+
+    fn from(p: Progress) -> Reply {
+        values(
+            usize::from(p.outcome),
+            bits(p.code) as usize,
+            p.steps as usize,
+        )
+    }
 }
 
 // The visits, the set in fault, the set out.
-pub fn ends(e: Ends) -> Reply
-    ensures { result ≡ ends_reply e }
-{
-    let fault = e.fault;
-    let out = e.out;
-    values(e.visits as usize, fault.bits as usize, out.bits as usize)
+impl From<Ends> for Reply {
+    ghost from_gives = { λ e y. y ≡ ends_reply e };
+
+    fn from(e: Ends) -> Reply {
+        values(
+            e.visits as usize,
+            e.fault.bits as usize,
+            e.out.bits as usize,
+        )
+    }
 }
 
 pub fn fill(r: Reply, answer: &mut [usize])
@@ -75,10 +110,5 @@ pub fn fill(r: Reply, answer: &mut [usize])
 {
     answer[0] = r.number;
     answer[1] = r.place;
-    answer[2] = r.first;
-    answer[3] = r.second;
-    answer[4] = r.third;
-    answer[5] = r.fourth;
-    answer[6] = r.fifth;
-    answer[7] = r.sixth;
+    answer[2..].copy_from_slice(&r.values);
 }

@@ -63,10 +63,10 @@ module _ (l : Bytes) (s slot value : ℕ) where
   unfolding branch_size hang
   hung_some names = rw names (size_some (term_at l s value))
 
-  pub child_writing : {conditions : ℕ} {condition_sets : List ℕ} {at space : ℕ} → names_node slot ≡ true
-      → SlotWriting l conditions condition_sets s slot value at space → Writing l conditions condition_sets s value at space
+  pub child_writing : {at space : ℕ} → names_node slot ≡ true
+      → SlotWriting l s slot value at space → Writing l s value at space
   unfolding branch_size hang
-  child_writing names w = record { ready = w.ready; node_below = w.child_below names; few = rw names at w.few; fits = rw names at w.fits }
+  child_writing names w = record { node_below = w.child_below names; few = rw names at w.few; fits = rw names at w.fits }
 
   pub child_wrote : {at next : ℕ} {out out' : Bytes} → names_node slot ≡ true → Wrote l s value at out out' next
       → SlotWrote (hung l s slot value) at out out' next

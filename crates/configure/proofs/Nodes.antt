@@ -18,6 +18,7 @@ use Rattle.image.specs.Rows.{node_fits}
 use Rattle.image.specs.Term.{term, Branch, size, branch_size, name, node_word, bytes_of}
 use Rattle.image.proofs.Theorem.Lower.{fitted, lower}
 use Rattle.image.specs.Inner.Lower.{Lower}
+use Rattle.image.specs.Inner.Ready.{Ready}
 use Rattle.image.proofs.Theorem.Choosing.{choice_condition, choice_b, choice_c, chosen_is, chosen_lower}
 use Rattle.image.proofs.Theorem.Listed.{by_test}
 use Rattle.configure.specs.Inner.Term.{term_at}
@@ -44,7 +45,8 @@ slot_falls {n} {value} slot lower =
 
 -- a node that is to be written, as it was read
 pub record Read (l : Bytes) (conditions : ℕ) (condition_sets : List ℕ) (s n at space : ℕ) (ν : Node) : Type 0 where
-  pub writing : Writing l conditions condition_sets s n at space
+  pub ready : Ready l conditions condition_sets s
+  pub writing : Writing l s n at space
   pub is_node : ν ≡ node l n
 
 -- one that is no choice, and its digits
@@ -74,11 +76,11 @@ pub record Finished (l : Bytes) (s n at : ℕ) (out out' : Bytes) (ν : Node) (a
 
 module _ {l : Bytes} {conditions : ℕ} {condition_sets : List ℕ} {s n at space : ℕ} {ν : Node}
     (here : Read l conditions condition_sets s n at space ν) where
-  abbrev w : Writing l conditions condition_sets s n at space
+  abbrev w : Writing l s n at space
   w = here.writing
 
   fits : node_fits (header l).conditions n (node l n) ≡ true
-  fits = w.ready.accepted.nodes_fit n w.node_below
+  fits = here.ready.accepted.nodes_fit n w.node_below
 
   low : Lower n (node l n)
   low = lower (header l).conditions n (node l n) fits
@@ -87,17 +89,16 @@ module _ {l : Bytes} {conditions : ℕ} {condition_sets : List ℕ} {s n at spac
 
   pub chosen : is_choice ν.kind ≡ true → Chosen l s n (cond (bit (get_or condition_sets ν.a 0) s) ν.b ν.c)
   chosen = rw here.is_node λ choice.
-      let b_lower = choice_b l w.ready.accepted n w.node_below choice in
-      let c_lower = choice_c l w.ready.accepted n w.node_below choice in
-      let held = chosen_is l conditions condition_sets s (node l n).a w.ready (choice_condition l w.ready.accepted n w.node_below choice) in
+      let b_lower = choice_b l here.ready.accepted n w.node_below choice in
+      let c_lower = choice_c l here.ready.accepted n w.node_below choice in
+      let held = chosen_is l conditions condition_sets s (node l n).a here.ready (choice_condition l here.ready.accepted n w.node_below choice) in
       record {
         is_lower = chosen_lower (bit (get_or condition_sets (node l n).a 0) s) (node l n).b (node l n).c n b_lower c_lower;
         same = choice_term l s n choice b_lower c_lower ∙ ap (λ u. term_at l s (cond u (node l n).b (node l n).c)) (sym held);
       }
 
-  pub part_writing : {x : ℕ} → Chosen l s n x → Writing l conditions condition_sets s x at space
+  pub part_writing : {x : ℕ} → Chosen l s n x → Writing l s x at space
   part_writing part = record {
-    ready = w.ready;
     node_below = omega (arith, part.is_lower, w.node_below);
     few = omega (arith, ap size part.same, w.few);
     fits = omega (arith, ap size part.same, w.fits);
@@ -108,9 +109,8 @@ module _ {l : Bytes} {conditions : ℕ} {condition_sets : List ℕ} {s n at spac
 
   pub slot_writing : {slot value next space' : ℕ} → (names_node slot ≡ true → value < n)
       → next + branch_size (hung l s slot value) ≤ at + size (term_at l s n) → space' ≡ space
-      → SlotWriting l conditions condition_sets s slot value next space'
+      → SlotWriting l s slot value next space'
   slot_writing lower le same = record {
-    ready = w.ready;
     child_below = λ names. omega (arith, lower names, w.node_below);
     few = omega (arith, w.few);
     fits = omega (arith, w.fits);

@@ -11,7 +11,7 @@ use Rattle.image.specs.Rows.{answer, judge, written}
 use Rattle.image.specs.Term.{Term, size, head_word, words, bytes_of, all_bytes, term_image}
 use Rattle.image.specs.Accepted.{Accepted}
 use Rattle.image.proofs.Theorem.Words.{length_bytes}
-use Rattle.configure.specs.declared.Configured.TheVariants.{Length, Refused}
+use Rattle.std.specs.Prelude.{Ok, Err}
 use Rattle.image.specs.declared.refusals.Refusal.TheVariants.{SpaceShort}
 use Rattle.configure.specs.Inner.Term.{term_at}
 use Rattle.configure.specs.Inner.Writing.{Wrote}
@@ -40,14 +40,14 @@ module _ (l : List ℕ) (acc : Accepted l) (s : ℕ) (out : List ℕ) (nodes : �
       ∙ ap (sets out 0) (sym image_here)
       ∙ over_is (configured l s) out (omega (arith, length_here))
 
-  pub short : length out < 8 + 8 * size root → Configures (space_rows l s (length out)) l s out out (Refused SpaceShort)
+  pub short : length out < 8 + 8 * size root → Configures (space_rows l s (length out)) l s out out (Err SpaceShort)
   unfolding space_rows judge written
   short h =
       let fails = lt-ltb (length out) (length (configured l s)) (omega (arith, length_here)) in
       record { answered = rw fails; out_is = rw fails }
 
   pub carried : {out₁ out₂ : List ℕ} {end : ℕ} → 8 + 8 * size root ≤ length out → out₁ ≡ sets out 0 (bytes_of 8 (head_word 0 0 (size root)))
-      → Wrote l s (nodes - 1) 0 out₁ out₂ end → Configures (space_rows l s (length out)) l s out out₂ (Length (8 + 8 * end))
+      → Wrote l s (nodes - 1) 0 out₁ out₂ end → Configures (space_rows l s (length out)) l s out out₂ (Ok (8 + 8 * end))
   unfolding space_rows judge written
   carried {out₁} {out₂} {end} h first then =
       let passes = le-ltb (length out) (length (configured l s)) (omega (arith, length_here)) in

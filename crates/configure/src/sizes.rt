@@ -1,15 +1,12 @@
 // How many nodes the configured routine has, before a byte of it is written: a size for each node, bottom up.
 ghost use Rattle.std.specs.Prelude.{◌≡◌, true, cond, ◌-◌, ◌<◌, length, get_or};
-ghost use Rattle.image.specs.Records.{header};
 ghost use Rattle.image.specs.Layout.{names_node};
 ghost use Rattle.image.specs.Term.{size};
 ghost use Rattle.configure.specs.Inner.Term.{term_at};
-ghost use Rattle.image.specs.Inner.Ready.{Ready};
 ghost use Rattle.configure.specs.Inner.Sizing.{Sizing};
 
-use image::choice::chosen;
 use image::kinds::{OF_A, OF_B, is_choice, layout, names_node};
-use image::node_at;
+use image::setting::Setting;
 
 // The size of the child that a field names; none, where it names no node.
 fn slot_size(slot: u32, value: usize, sizes: &[usize]) -> usize
@@ -20,20 +17,13 @@ fn slot_size(slot: u32, value: usize, sizes: &[usize]) -> usize
 }
 
 // The size of node n's configured term, from the sizes of the nodes before it.
-fn size_of(
-    image: &[u8],
-    conditions: usize,
-    sets: &[u64],
-    s: u64,
-    n: usize,
-    sizes: &[usize],
-) -> usize
-    requires { Sizing image.now conditions sets.now s n sizes.now }
-    ensures { result ≡ size (term_at image.now s n) }
+fn size_of(setting: &Setting<'_>, n: usize, sizes: &[usize]) -> usize
+    requires { Sizing setting.now.routine.image.now setting.now.s n sizes.now }
+    ensures { result ≡ size (term_at setting.now.routine.image.now setting.now.s n) }
 {
-    let node = node_at(image, conditions, n);
+    let node = setting.routine.node(n);
     if is_choice(node.kind) {
-        let part = chosen(node, sets, s);
+        let part = setting.chosen(node);
         return sizes[part];
     }
     let digits = layout(node.kind);
@@ -44,13 +34,14 @@ fn size_of(
 }
 
 // The size of the whole configured routine.
-pub fn configured_size(image: &[u8], conditions: usize, nodes: usize, sets: &[u64], s: u64) -> usize
-    requires { Ready image.now conditions sets.now s × (nodes ≡ (header image.now).nodes) }
-    ensures { result ≡ size (term_at image.now s (nodes - 1)) }
+pub fn configured_size(setting: &Setting<'_>) -> usize
+    ensures { result ≡ size (term_at setting.now.routine.image.now setting.now.s (setting.now.routine.nodes - 1)) }
 {
+    let nodes = setting.routine.nodes;
     let mut sizes = [0usize; 1024];
+    // An index, since each size is made of those that the array already holds.
     for n in 0..nodes {
-        sizes[n] = size_of(image, conditions, sets, s, n, &sizes);
+        sizes[n] = size_of(setting, n, &sizes);
     }
     sizes[nodes - 1]
 }

@@ -3,10 +3,10 @@ ghost use Rattle.std.specs.Prelude.{◌≡◌, true, cond, ◌<◌, eqb, length}
 ghost use Rattle.image.specs.Layout.{names_node};
 ghost use Rattle.configure.specs.Inner.Writing.{Writing, Wrote, hung, SlotWriting, SlotWrote, named, own_word, Ended};
 
-use image::choice::chosen;
-use image::kinds::{NUMBER, OF_A, OF_B, is_choice, layout, names_node};
+use image::Node;
+use image::kinds::{Kind, OF_A, OF_B, is_choice, layout, names_node};
+use image::setting::Setting;
 use image::words::{node_word, put};
-use image::{Node, node_at};
 
 // A child was just written, so its name is the number before the next; a field that names no node is zero.
 fn name(slot: u32, next: usize) -> usize
@@ -20,7 +20,11 @@ fn name(slot: u32, next: usize) -> usize
 fn value_of(node: Node) -> u32
     ensures { result ≡ cond (eqb node.kind 0) node.value 0 }
 {
-    if node.kind == NUMBER { node.value } else { 0 }
+    if node.kind == u32::from(Kind::Number) {
+        node.value
+    } else {
+        0
+    }
 }
 
 // The node itself, once its children are written: the next nodes after them are after_a, after_b and after_c.
@@ -37,50 +41,33 @@ fn own_word(node: Node, after_a: usize, after_b: usize, after_c: usize) -> u64
 
 // The child that a field names, or nothing. The answer is the next node's number, as that of `write`.
 #[cycle(write_write_slot)]
-fn write_slot(
-    image: &[u8],
-    conditions: usize,
-    sets: &[u64],
-    s: u64,
-    slot: u32,
-    value: usize,
-    at: usize,
-    out: &mut [u8],
-) -> usize
-    requires { SlotWriting image.now conditions sets.now s slot value at (length out.old) }
-    ensures { SlotWrote (hung image.now s slot value) at out.old out.new result }
+fn write_slot(setting: &Setting<'_>, slot: u32, value: usize, at: usize, out: &mut [u8]) -> usize
+    requires { SlotWriting setting.now.routine.image.now setting.now.s slot value at (length out.old) }
+    ensures { SlotWrote (hung setting.now.routine.image.now setting.now.s slot value) at out.old out.new result }
 {
     if names_node(slot) {
-        return write(image, conditions, sets, s, value, at, out);
+        return write(setting, value, at, out);
     }
     at
 }
 
 // Node n configured for setting s, as nodes `at` and on. A choice, whose field a is a condition, becomes its chosen part.
 #[cycle(write_write_slot)]
-pub fn write(
-    image: &[u8],
-    conditions: usize,
-    sets: &[u64],
-    s: u64,
-    n: usize,
-    at: usize,
-    out: &mut [u8],
-) -> usize
-    requires { Writing image.now conditions sets.now s n at (length out.old) }
-    ensures { Wrote image.now s n at out.old out.new result }
+pub fn write(setting: &Setting<'_>, n: usize, at: usize, out: &mut [u8]) -> usize
+    requires { Writing setting.now.routine.image.now setting.now.s n at (length out.old) }
+    ensures { Wrote setting.now.routine.image.now setting.now.s n at out.old out.new result }
 {
-    let node = node_at(image, conditions, n);
+    let node = setting.routine.node(n);
     if is_choice(node.kind) {
-        let part = chosen(node, sets, s);
-        return write(image, conditions, sets, s, part, at, out);
+        let part = setting.chosen(node);
+        return write(setting, part, at, out);
     }
     let digits = layout(node.kind);
     let slot_a = digits / OF_A % 8;
     let slot_b = digits / OF_B % 8;
-    let after_a = write_slot(image, conditions, sets, s, slot_a, node.a, at, out);
-    let after_b = write_slot(image, conditions, sets, s, slot_b, node.b, after_a, out);
-    let after_c = write_slot(image, conditions, sets, s, digits % 8, node.c, after_b, out);
+    let after_a = write_slot(setting, slot_a, node.a, at, out);
+    let after_b = write_slot(setting, slot_b, node.b, after_a, out);
+    let after_c = write_slot(setting, digits % 8, node.c, after_b, out);
     let own = own_word(node, after_a, after_b, after_c);
     put(out, 8 + 8 * after_c, own, 8);
     after_c + 1

@@ -3,6 +3,7 @@ use mathlib.Core.Path.{◌≡◌, sym, ◌∙◌, ap, ap₂}
 use mathlib.Core.List.{List, ◌++◌}
 use Prim.Native.Nat.{ℕ, ◌≤◌, ◌<◌}
 use lib.ListN.{length}
+use Rattle.std.specs.Prelude.{Result, Ok, Err}
 use Rattle.imp.specs.State.{Numbers, State}
 use Rattle.image.specs.declared.refusals.Refusal.{Refusal}
 use Rattle.image.specs.Bytes.{Bytes}
@@ -10,8 +11,6 @@ use Rattle.image.specs.Refusals.{number_of, place_of}
 use Rattle.image.specs.Rows.{Row, NoneFails}
 use Rattle.image.proofs.Theorem.Carried.{carried, written_new, carried_again, refused_again}
 use Rattle.plain.specs.declared.progress.Progress.{Progress}
-use Rattle.plain.specs.declared.PlainRun.{PlainRun}
-use Rattle.plain.specs.declared.PlainRun.TheVariants.{Ended, Refused}
 use Rattle.plain.specs.PlainRun.{progress_of, RunsIn}
 use Rattle.lines.specs.Text.{line, refusal_line, zeros}
 use Rattle.hall.specs.Text.{variable_lines, run_of, run_rows, told, run_text}
@@ -24,14 +23,14 @@ module _ (l : Bytes) (s budget : ℕ) where
   abbrev rows : List Row
   rows = run_rows l s budget
 
-  abbrev pub Runs : Numbers → PlainRun → Type 0
+  abbrev pub Runs : Numbers → Result Progress Refusal → Type 0
   Runs = RunsIn s rows l budget (zeros 1)
 
-  pub tell_refused : {ns : Numbers} {r : Refusal} → Runs ns (Refused r) → refusal_line (number_of r) (place_of r) ≡ run_text l s budget
+  pub tell_refused : {ns : Numbers} {r : Refusal} → Runs ns (Err r) → refusal_line (number_of r) (place_of r) ≡ run_text l s budget
   unfolding told run_of
   tell_refused h = sym (ap (told s) (refused_again rows (progress_of σ) σ h.answered))
 
-  module _ {ns : Numbers} {p : Progress} (h : Runs ns (Ended p)) where
+  module _ {ns : Numbers} {p : Progress} (h : Runs ns (Ok p)) where
     done : NoneFails rows × (p ≡ progress_of σ)
     unfolding run_of
     done = carried rows (progress_of σ) p h.answered

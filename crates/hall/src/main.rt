@@ -24,7 +24,7 @@ fn write<W: Write>(out: &mut W, input: &[u8], n: usize, text: &[u8]) -> bool
     out.write_all(text).is_ok()
 }
 
-// The stream that n bytes were read of.
+// The stream that n bytes were read of: by input and n, since `Tells` speaks of the whole space.
 fn answer_to<W: Write, E: Write>(out: &mut W, errors: &mut E, input: &[u8], n: usize)
     requires input_len { length input.now ≡ most }
     requires n_in_bounds { n ≤ length input.now }
@@ -39,10 +39,8 @@ fn answer_to<W: Write, E: Write>(out: &mut W, errors: &mut E, input: &[u8], n: u
 // "it reads no more than 9,237 bytes"
 fn main(rt: HostRuntime) {
     let mut input = [0u8; MOST];
-    let got = read_input(&mut rt.stdin(), &mut input);
-    if got.failed {
-        complain(&mut rt.stderr(), b"hall: the input cannot be read\n");
-        return;
+    match read_input(&mut rt.stdin(), &mut input) {
+        Ok(n) => answer_to(&mut rt.stdout(), &mut rt.stderr(), &input, n),
+        Err(_) => complain(&mut rt.stderr(), b"hall: the input cannot be read\n"),
     }
-    answer_to(&mut rt.stdout(), &mut rt.stderr(), &input, got.bytes)
 }

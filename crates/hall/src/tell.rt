@@ -5,10 +5,11 @@ ghost use Rattle.hall.specs.Text.{variable_line, variable_lines, run_text, text,
 
 use image::refusals::Refusal;
 use lines::{budget_in, put_line, put_refusal, set_in};
-use plain::{PlainRun, one_hall};
+use plain::one_hall;
 use text::{put, put_decimal, put_signed};
 
 // The line of variable v, which holds z.
+#[tactic(auto, using(lines::proofs::Room::room))]
 fn put_variable(out: &mut [u8], at: usize, v: usize, z: i32) -> usize
     requires { (v < 16) × (at + 16 ≤ length out.old) }
     ensures { Puts (variable_line v z) at out.old out.new result }
@@ -26,9 +27,8 @@ fn put_variables(out: &mut [u8], at: usize, numbers: &[i32]) -> usize
     ensures { Puts (variable_lines 16 numbers.now) at out.old out.new result }
 {
     let mut end = at;
-    for v in 0..16 {
-        let z = numbers[v];
-        end = put_variable(out, end, v, z);
+    for (v, z) in numbers.iter().enumerate() {
+        end = put_variable(out, end, v, *z);
     }
     end
 }
@@ -40,8 +40,8 @@ fn tell_run(image: &[u8], setting: u64, budget: u32, out: &mut [u8]) -> usize
 {
     let mut numbers = [0i32; 16];
     match one_hall(image, setting, budget, &mut numbers) {
-        PlainRun::Refused(r) => put_refusal(out, r),
-        PlainRun::Ended(p) => {
+        Err(r) => put_refusal(out, r),
+        Ok(p) => {
             let at = put_line(out, 0, setting as usize, p);
             put_variables(out, at, &numbers)
         }

@@ -2,6 +2,7 @@
 pub mod Bytes
 pub mod Records
 pub mod Layout
+pub mod Kinds
 pub mod Refusals
 pub mod Rows
 pub mod Check

@@ -1,9 +1,9 @@
 -- "A condition denotes the set in which it is true": of the settings below N, those in which it holds.
-use Rattle.std.specs.Prelude.{ℕ, ◌^◌, Bool, not, ◌&&◌, List, [], ◌∷◌, ◌++◌, ltb}
+use Rattle.std.specs.Prelude.{ℕ, ◌^◌, Bool, not, ◌&&◌, List, [], ◌∷◌, ◌++◌, ltb, Result, Ok, Err}
 use Rattle.sets.specs.Member.{has}
 use Rattle.imp.specs.Condition.{holds}
-use Rattle.image.specs.declared.conditions.ConditionSet.{ConditionSet}
-use Rattle.image.specs.declared.conditions.ConditionSet.TheVariants.{Of, Refused}
+use Rattle.sets.specs.declared.Set.{Set}
+use Rattle.image.specs.declared.refusals.Refusal.{Refusal}
 use Rattle.image.specs.Bytes.{Bytes}
 use Rattle.image.specs.Records.{header}
 use Rattle.image.specs.Refusals.{number_of, place_of}
@@ -27,6 +27,6 @@ unfoldable pub condition_rows : Bytes → ℕ → List Row
 condition_rows l k = check_rows l ++ (row 15 (not (ltb k (header l).conditions)) ∷ [])
 
 -- what the call answers: a refusal, or who is in the set
-abbrev pub set_answer : ConditionSet → Answer (ℕ → Bool)
-set_answer (Of S) = answer (has S)
-set_answer (Refused r) = refused (number_of r) (place_of r)
+abbrev pub set_answer : Result Set Refusal → Answer (ℕ → Bool)
+set_answer (Ok S) = answer (has S)
+set_answer (Err r) = refused (number_of r) (place_of r)

@@ -1,73 +1,54 @@
 // The check of an image: tests 1 to 8, "in that order, each over the whole image before the next".
-ghost use Rattle.std.specs.Prelude.{◌≡◌, not, ◌+◌, ◌*◌, ◌≤◌, length, drop};
+ghost use Rattle.std.specs.Prelude.{◌≡◌, not, drop};
 ghost use Rattle.image.specs.Records.{condition_record, node};
 ghost use Rattle.image.specs.Rows.{lowest, condition_fits, node_fits, classed, edition_wrong, counts_wrong, check_rows, judge};
-ghost use Rattle.image.specs.Inner.Whole.{Whole, Fitting};
+ghost use Rattle.image.specs.Inner.Whole.{Fitting};
 ghost use Rattle.image.specs.Check.{answer_of, shape_of};
 ghost use Rattle.image.specs.Inner.Headed.{Headed};
 
 use super::fits::{classed, condition_fits, node_fits};
 use super::names::lowest_named;
-use super::records::{Header, condition_at, header_at, node_at};
+use super::records::{Header, header_at};
 use super::refusals::Refusal;
+use super::routine::Routine;
+use super::search::lowest;
 
 // F, C and P.
-#[derive(Clone, Copy)]
+#[derive(Clone, Copy, PartialEq, Eq)]
 pub struct Shape {
     pub options: u32,
     pub conditions: usize,
     pub nodes: usize,
 }
 
-#[derive(Clone, Copy)]
-pub enum Checked {
-    Good(Shape),
-    Refused(Refusal),
-}
-
 // The lowest condition that does not fit, and C where each does.
-fn lowest_condition(image: &[u8], options: u32, conditions: usize) -> usize
-    requires { 8 + 4 * conditions ≤ length image.now }
-    ensures { result ≡ lowest conditions (λ k. not (condition_fits options k (condition_record image.now k))) }
+fn lowest_condition(routine: Routine<'_>, options: u32) -> usize
+    ensures { result ≡ lowest routine.entry.conditions
+        (λ k. not (condition_fits options k (condition_record routine.entry.image.now k))) }
 {
-    let mut k: usize = 0;
-    while k < conditions {
-        if !condition_fits(options, k, condition_at(image, k)) {
-            return k;
-        }
-        k += 1;
-    }
-    k
+    lowest(
+        routine.conditions,
+        |k| !condition_fits(options, k, routine.condition(k)),
+    )
 }
 
 // The lowest node that does not fit, and P where each does.
-fn lowest_node(image: &[u8], conditions: usize, nodes: usize) -> usize
-    requires { Whole image.now conditions nodes }
-    ensures { result ≡ lowest nodes (λ n. not (node_fits conditions n (node image.now n))) }
+fn lowest_node(routine: Routine<'_>) -> usize
+    ensures { result ≡ lowest routine.entry.nodes
+        (λ n. not (node_fits routine.entry.conditions n (node routine.entry.image.now n))) }
 {
-    let mut n: usize = 0;
-    while n < nodes {
-        if !node_fits(conditions, n, node_at(image, conditions, n)) {
-            return n;
-        }
-        n += 1;
-    }
-    n
+    lowest(
+        routine.nodes,
+        |n| !node_fits(routine.conditions, n, routine.node(n)),
+    )
 }
 
 // The lowest node with a child of the wrong class, or the root if it is no statement; P where there is none.
-fn lowest_class(image: &[u8], conditions: usize, nodes: usize) -> usize
-    requires { Fitting image.now conditions nodes }
-    ensures { result ≡ lowest nodes (λ n. not (classed image.now n)) }
+fn lowest_class(routine: Routine<'_>) -> usize
+    requires { Fitting routine.image.now routine.conditions routine.nodes }
+    ensures { result ≡ lowest routine.entry.nodes (λ n. not (classed routine.entry.image.now n)) }
 {
-    let mut n: usize = 0;
-    while n < nodes {
-        if !classed(image, conditions, nodes, n) {
-            return n;
-        }
-        n += 1;
-    }
-    n
+    lowest(routine.nodes, |n| !classed(routine, n))
 }
 
 // "edition not 1, or header zero bits set"
@@ -85,46 +66,51 @@ fn counts_wrong(h: Header) -> bool
 }
 
 // Tests 5 to 8, of an image whose header and length are right.
-fn check_records(image: &[u8], shape: Shape) -> Checked
+fn check_records(image: &[u8], shape: Shape) -> Result<Shape, Refusal>
     requires { Headed image.now shape }
     ensures { answer_of result ≡ judge (drop 4 (check_rows image.now)) shape }
 {
     let conditions = shape.conditions;
     let nodes = shape.nodes;
-    let condition = lowest_condition(image, shape.options, conditions);
+    let routine = Routine {
+        image,
+        conditions,
+        nodes,
+    };
+    let condition = lowest_condition(routine, shape.options);
     if condition < conditions {
-        return Checked::Refused(Refusal::ConditionWrong(condition));
+        return Err(Refusal::ConditionWrong(condition));
     }
-    let node = lowest_node(image, conditions, nodes);
+    let node = lowest_node(routine);
     if node < nodes {
-        return Checked::Refused(Refusal::NodeWrong(node));
+        return Err(Refusal::NodeWrong(node));
     }
-    let parent = lowest_class(image, conditions, nodes);
+    let parent = lowest_class(routine);
     if parent < nodes {
-        return Checked::Refused(Refusal::ClassWrong(parent));
+        return Err(Refusal::ClassWrong(parent));
     }
-    let named = lowest_named(image, conditions, nodes);
+    let named = lowest_named(routine);
     if named < nodes - 1 {
-        return Checked::Refused(Refusal::NamedWrong(named));
+        return Err(Refusal::NamedWrong(named));
     }
-    Checked::Good(shape)
+    Ok(shape)
 }
 
-pub fn check(image: &[u8]) -> Checked
+pub fn check(image: &[u8]) -> Result<Shape, Refusal>
     ensures { answer_of result ≡ judge (check_rows image.now) (shape_of image.now) }
 {
     if image.len() < 8 {
-        return Checked::Refused(Refusal::ImageShort);
+        return Err(Refusal::ImageShort);
     }
     let h = header_at(image);
     if edition_wrong(h) {
-        return Checked::Refused(Refusal::EditionWrong);
+        return Err(Refusal::EditionWrong);
     }
     if counts_wrong(h) {
-        return Checked::Refused(Refusal::CountsWrong);
+        return Err(Refusal::CountsWrong);
     }
     if image.len() != 8 + 4 * h.conditions + 8 * h.nodes {
-        return Checked::Refused(Refusal::LengthWrong);
+        return Err(Refusal::LengthWrong);
     }
     let shape = Shape {
         options: h.options,

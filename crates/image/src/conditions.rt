@@ -7,17 +7,11 @@ ghost use Rattle.image.specs.Sets.{in_condition, condition_rows, set_answer};
 ghost use Rattle.image.specs.Inner.SetsOf.{TableOf, Turn};
 ghost use Rattle.image.specs.Accepted.{Accepted};
 
-use super::accept::{Checked, Shape, check};
-use super::kinds::{AND_CONDITION, FALSE_CONDITION, NOT_CONDITION, OPTION, TRUE_CONDITION};
+use super::accept::{Shape, check};
+use super::kinds::ConditionKind;
 use super::records::condition_at;
 use super::refusals::Refusal;
-use sets::{Full, Set};
-
-#[derive(Clone, Copy)]
-pub enum ConditionSet {
-    Of(Set),
-    Refused(Refusal),
-}
+use sets::Set;
 
 // The set of condition k, from the sets of the conditions before it.
 fn set_of(image: &[u8], k: usize, full: Set, sets: &[u64]) -> Set
@@ -25,16 +19,15 @@ fn set_of(image: &[u8], k: usize, full: Set, sets: &[u64]) -> Set
     ensures { (s : ℕ) → has result s ≡ in_condition image.now k s }
 {
     let r = condition_at(image, k);
-    let kind = r.kind;
-    let left = r.left;
-    let right = r.right;
-    match kind {
-        FALSE_CONDITION => Set::empty(),
-        TRUE_CONDITION => full,
-        OPTION => Set::option(full, r.option),
-        NOT_CONDITION => full.take_away(Set::at(sets, left)),
-        AND_CONDITION => Set::at(sets, left).meet(Set::at(sets, right)),
-        _ => Set::at(sets, left).join(Set::at(sets, right)),
+    let left = Set::at(sets, r.left);
+    let right = Set::at(sets, r.right);
+    match r.kind() {
+        ConditionKind::False => Set::empty(),
+        ConditionKind::True => full,
+        ConditionKind::Option => Set::option(full, r.option),
+        ConditionKind::Not => full.take_away(left),
+        ConditionKind::And => left.meet(right),
+        ConditionKind::Or => left.join(right),
     }
 }
 
@@ -43,10 +36,7 @@ pub fn all_settings(options: u32) -> Set
     requires { options ≤ 6 }
     ensures { (s : ℕ) → has result s ≡ ltb s (2 ^ options) }
 {
-    match Set::full(options) {
-        Full::Of(all) => all,
-        Full::Refused => Set::empty(),
-    }
+    Set::full(options).unwrap_or(Set::empty())
 }
 
 // The sets of all conditions of an accepted image, each from those before it; the places from C on are empty.
@@ -64,17 +54,13 @@ pub fn condition_sets(image: &[u8], shape: Shape) -> [u64; 256]
 }
 
 // "the set of settings in which a condition holds": refusals 1 to 8, 15.
-pub fn condition_set(image: &[u8], number: usize) -> ConditionSet
+pub fn condition_set(image: &[u8], number: usize) -> Result<Set, Refusal>
     ensures { set_answer result ≡ judge (condition_rows image.now number) (in_condition image.now number) }
 {
-    match check(image) {
-        Checked::Refused(r) => ConditionSet::Refused(r),
-        Checked::Good(shape) => {
-            if shape.conditions <= number {
-                return ConditionSet::Refused(Refusal::ConditionBeyond);
-            }
-            let sets = condition_sets(image, shape);
-            ConditionSet::Of(Set::at(&sets, number))
-        }
+    let shape = check(image)?;
+    if shape.conditions <= number {
+        return Err(Refusal::ConditionBeyond);
     }
+    let sets = condition_sets(image, shape);
+    Ok(Set::at(&sets, number))
 }

@@ -1,16 +1,16 @@
 // What one record may hold: tests 5 to 7 of one condition and one node. They are joined by `&`: to stop early would save
 // little, and this way each function has one answer to prove.
-ghost use Rattle.std.specs.Prelude.{◌≡◌, true, ◌+◌, ◌*◌, ◌≤◌, ◌<◌, length};
-ghost use Rattle.image.specs.Records.{header, node};
+ghost use Rattle.std.specs.Prelude.{◌≡◌, true, ◌<◌};
+ghost use Rattle.image.specs.Records.{node};
 ghost use Rattle.image.specs.Layout.{field_fits, names_node};
 ghost use Rattle.image.specs.Rows.{condition_fits, slot_fits, node_fits, class, slot_classed, classed};
-ghost use Rattle.image.specs.Inner.Whole.{Whole};
 
 use super::kinds::{
-    NUMBER, OF_A, OF_B, OF_CLASS, OF_LEFT, OF_OPTION, OF_VARIABLE, STATEMENT, condition_layout,
+    Kind, OF_A, OF_B, OF_CLASS, OF_LEFT, OF_OPTION, OF_VARIABLE, STATEMENT, condition_layout,
     layout, names_node,
 };
-use super::records::{ConditionRecord, Node, node_at};
+use super::records::{ConditionRecord, Node};
+use super::routine::Routine;
 
 // A field that is not used is zero, and one that is used is below its bound.
 fn field_fits(digit: u32, value: usize, bound: usize) -> bool
@@ -49,7 +49,7 @@ pub fn condition_fits(options: u32, k: usize, r: ConditionRecord) -> bool
 pub fn node_fits(conditions: usize, n: usize, node: Node) -> bool
     ensures { result ≡ node_fits conditions n node }
 {
-    if node.kind == NUMBER {
+    if node.kind == Kind::Number as u32 {
         return node.high == 0;
     }
     let digits = layout(node.kind);
@@ -61,39 +61,38 @@ pub fn node_fits(conditions: usize, n: usize, node: Node) -> bool
 }
 
 // The class of node n: 1 arithmetic, 2 boolean, 3 statement.
-pub fn class(image: &[u8], conditions: usize, n: usize) -> u32
-    requires { (conditions ≡ (header image.now).conditions) × (8 + 4 * conditions + 8 * n + 8 ≤ length image.now) }
-    ensures { result ≡ class image.now n }
+fn class(routine: Routine<'_>, n: usize) -> u32
+    requires { n < routine.nodes }
+    ensures { result ≡ class routine.entry.image.now n }
 {
-    let node = node_at(image, conditions, n);
-    layout(node.kind) / OF_CLASS % 8
+    layout(routine.node(n).kind) / OF_CLASS % 8
 }
 
 // A field that names a node names one of its class.
-fn slot_classed(image: &[u8], conditions: usize, slot: u32, value: usize) -> bool
-    requires { (conditions ≡ (header image.now).conditions)
-        × (names_node slot ≡ true → 8 + 4 * conditions + 8 * value + 8 ≤ length image.now) }
-    ensures { result ≡ slot_classed image.now slot value }
+fn slot_classed(routine: Routine<'_>, slot: u32, value: usize) -> bool
+    requires { names_node slot ≡ true → value < routine.nodes }
+    ensures { result ≡ slot_classed routine.entry.image.now slot value }
 {
     if names_node(slot) {
-        class(image, conditions, value) == slot
+        class(routine, value) == slot
     } else {
         true
     }
 }
 
 // "a child of the wrong class, or the root is no statement": of a node that test 6 passes, so that its names are lower.
-pub fn classed(image: &[u8], conditions: usize, nodes: usize, n: usize) -> bool
-    requires { Whole image.now conditions nodes × ((n < nodes) × (node_fits conditions n (node image.now n) ≡ true)) }
-    ensures { result ≡ classed image.now n }
+pub fn classed(routine: Routine<'_>, n: usize) -> bool
+    requires { (n < routine.nodes)
+        × (node_fits routine.conditions n (node routine.image.now n) ≡ true) }
+    ensures { result ≡ classed routine.entry.image.now n }
 {
-    let node = node_at(image, conditions, n);
+    let node = routine.node(n);
     let digits = layout(node.kind);
-    let a = slot_classed(image, conditions, digits / OF_A % 8, node.a);
-    let b = slot_classed(image, conditions, digits / OF_B % 8, node.b);
-    let c = slot_classed(image, conditions, digits % 8, node.c);
+    let a = slot_classed(routine, digits / OF_A % 8, node.a);
+    let b = slot_classed(routine, digits / OF_B % 8, node.b);
+    let c = slot_classed(routine, digits % 8, node.c);
     let children = a & (b & c);
-    if n + 1 == nodes {
+    if n + 1 == routine.nodes {
         return children & (digits / OF_CLASS % 8 == STATEMENT);
     }
     children

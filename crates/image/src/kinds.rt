@@ -1,44 +1,111 @@
 // Document 01's kinds of nodes and of conditions by name, and what each holds: specs/Layout.antt explains the rows of digits.
 ghost use Rattle.std.specs.Prelude.{◌≡◌};
 ghost use Rattle.image.specs.Layout.{layout, condition_layout, names_node, is_choice};
+ghost use Rattle.image.specs.Kinds.{kind_number, condition_kind_number, Decodes, DecodesCondition};
 
-pub const NUMBER: u32 = 0;
+// The kinds of nodes, each with its number.
+#[derive(Clone, Copy, PartialEq, Eq)]
+pub enum Kind {
+    Number = 0,
+    Variable = 1,
+    Sum = 2,
+    Pick = 3,
+    ChoiceOfArithmetic = 4,
+    False = 8,
+    True = 9,
+    Not = 10,
+    And = 11,
+    Less = 12,
+    ChoiceOfBooleans = 13,
+    Skip = 16,
+    Assign = 17,
+    Sequence = 18,
+    If = 19,
+    While = 20,
+    Throw = 21,
+    Try = 22,
+    Choice = 23,
+}
 
-pub const VARIABLE: u32 = 1;
+// A number that is no kind.
+#[derive(Clone, Copy, PartialEq, Eq)]
+pub struct UnknownKind(pub u32);
 
-pub const SUM: u32 = 2;
+impl TryFrom<u32> for Kind {
+    type Error = UnknownKind;
 
-pub const PICK: u32 = 3;
+    ghost try_from_gives = { Decodes };
 
-pub const CHOICE_OF_ARITHMETIC: u32 = 4;
+    fn try_from(number: u32) -> Result<Self, UnknownKind> {
+        match number {
+            0 => Ok(Kind::Number),
+            1 => Ok(Kind::Variable),
+            2 => Ok(Kind::Sum),
+            3 => Ok(Kind::Pick),
+            4 => Ok(Kind::ChoiceOfArithmetic),
+            8 => Ok(Kind::False),
+            9 => Ok(Kind::True),
+            10 => Ok(Kind::Not),
+            11 => Ok(Kind::And),
+            12 => Ok(Kind::Less),
+            13 => Ok(Kind::ChoiceOfBooleans),
+            16 => Ok(Kind::Skip),
+            17 => Ok(Kind::Assign),
+            18 => Ok(Kind::Sequence),
+            19 => Ok(Kind::If),
+            20 => Ok(Kind::While),
+            21 => Ok(Kind::Throw),
+            22 => Ok(Kind::Try),
+            23 => Ok(Kind::Choice),
+            _ => Err(UnknownKind(number)),
+        }
+    }
+}
 
-pub const FALSE: u32 = 8;
+impl From<Kind> for u32 {
+    ghost from_gives = { λ kind n. n ≡ kind_number kind };
 
-pub const TRUE: u32 = 9;
+    fn from(kind: Kind) -> u32 {
+        kind as u32
+    }
+}
 
-pub const NOT: u32 = 10;
+// The kinds of conditions, each with its number.
+#[derive(Clone, Copy, PartialEq, Eq)]
+pub enum ConditionKind {
+    False = 0,
+    True = 1,
+    Option = 2,
+    Not = 3,
+    And = 4,
+    Or = 5,
+}
 
-pub const AND: u32 = 11;
+impl TryFrom<u32> for ConditionKind {
+    type Error = UnknownKind;
 
-pub const LESS: u32 = 12;
+    ghost try_from_gives = { DecodesCondition };
 
-pub const CHOICE_OF_BOOLEANS: u32 = 13;
+    fn try_from(number: u32) -> Result<Self, UnknownKind> {
+        match number {
+            0 => Ok(ConditionKind::False),
+            1 => Ok(ConditionKind::True),
+            2 => Ok(ConditionKind::Option),
+            3 => Ok(ConditionKind::Not),
+            4 => Ok(ConditionKind::And),
+            5 => Ok(ConditionKind::Or),
+            _ => Err(UnknownKind(number)),
+        }
+    }
+}
 
-pub const SKIP: u32 = 16;
+impl From<ConditionKind> for u32 {
+    ghost from_gives = { λ kind n. n ≡ condition_kind_number kind };
 
-pub const ASSIGN: u32 = 17;
-
-pub const SEQUENCE: u32 = 18;
-
-pub const IF: u32 = 19;
-
-pub const WHILE: u32 = 20;
-
-pub const THROW: u32 = 21;
-
-pub const TRY: u32 = 22;
-
-pub const CHOICE: u32 = 23;
+    fn from(condition: ConditionKind) -> u32 {
+        condition as u32
+    }
+}
 
 // The weights of a row's digits: class, variable, a and b; the last digit is c's.
 pub const OF_CLASS: u32 = 0o10000;
@@ -79,18 +146,6 @@ const KINDS: [u32; 24] = [
     0o30433, // 23 choice of statements
 ];
 
-pub const FALSE_CONDITION: u32 = 0;
-
-pub const TRUE_CONDITION: u32 = 1;
-
-pub const OPTION: u32 = 2;
-
-pub const NOT_CONDITION: u32 = 3;
-
-pub const AND_CONDITION: u32 = 4;
-
-pub const OR_CONDITION: u32 = 5;
-
 // The weights of a condition's digits: option and left; the last digit is right's.
 pub const OF_OPTION: u32 = 0o100;
 
@@ -110,15 +165,13 @@ const CONDITION_KINDS: [u32; 6] = [
 pub fn layout(kind: u32) -> u32
     ensures { result ≡ layout kind }
 {
-    let at = kind as usize;
-    if at < 24 { KINDS[at] } else { 0 }
+    KINDS.get(kind as usize).copied().unwrap_or(0)
 }
 
 pub fn condition_layout(kind: u32) -> u32
     ensures { result ≡ condition_layout kind }
 {
-    let at = kind as usize;
-    if at < 6 { CONDITION_KINDS[at] } else { 0 }
+    CONDITION_KINDS.get(kind as usize).copied().unwrap_or(0)
 }
 
 // The field names a node, of the class that its digit says.

@@ -6,7 +6,9 @@ ghost use Rattle.image.specs.Inner.Whole.{Fitting};
 ghost use Rattle.image.specs.Inner.Lower.{Lower};
 
 use super::kinds::{OF_A, OF_B, layout, names_node};
-use super::records::{Node, node_at};
+use super::records::Node;
+use super::routine::Routine;
+use super::search::lowest;
 
 // The counter of the node that a field names goes up by one.
 fn count_slot(counts: &mut [u32], slot: u32, value: usize)
@@ -29,37 +31,23 @@ fn count_node(counts: &mut [u32], node: Node)
     count_slot(counts, digits % 8, node.c);
 }
 
-fn count_names(image: &[u8], conditions: usize, nodes: usize, counts: &mut [u32])
-    requires { Fitting image.now conditions nodes
-        × ((nodes ≤ length counts.old) × ((nodes ≤ 1024) × ((k : ℕ) → get_or counts.old k 0 ≡ 0))) }
-    ensures { (k : ℕ) → get_or counts.new k 0 ≡ names image.now nodes k }
+fn count_names(routine: Routine<'_>, counts: &mut [u32])
+    requires { Fitting routine.image.now routine.conditions routine.nodes
+        × ((routine.nodes ≤ length counts.old) × ((routine.nodes ≤ 1024) × ((k : ℕ) → get_or counts.old k 0 ≡ 0))) }
+    ensures { (k : ℕ) → get_or counts.new k 0 ≡ names routine.entry.image.now routine.entry.nodes k }
 {
-    for n in 0..nodes {
-        count_node(counts, node_at(image, conditions, n));
+    for n in 0..routine.nodes {
+        count_node(counts, routine.node(n));
     }
-}
-
-// The lowest counter of the first n that is not 1, and n where each is.
-fn lowest_wrong(counts: &[u32], n: usize) -> usize
-    requires { n ≤ length counts.now }
-    ensures { result ≡ lowest n (λ k. not (eqb (get_or counts.now k 0) 1)) }
-{
-    let mut k: usize = 0;
-    while k < n {
-        if counts[k] != 1 {
-            return k;
-        }
-        k += 1;
-    }
-    k
 }
 
 // The lowest node before the last that is not named exactly once, and P - 1 where each is.
-pub fn lowest_named(image: &[u8], conditions: usize, nodes: usize) -> usize
-    requires { Fitting image.now conditions nodes × ((0 < nodes) × (nodes ≤ 1024)) }
-    ensures { result ≡ lowest (nodes - 1) (named_wrong image.now) }
+pub fn lowest_named(routine: Routine<'_>) -> usize
+    requires { Fitting routine.image.now routine.conditions routine.nodes
+        × ((0 < routine.nodes) × (routine.nodes ≤ 1024)) }
+    ensures { result ≡ lowest (routine.entry.nodes - 1) (named_wrong routine.entry.image.now) }
 {
     let mut counts = [0u32; 1024];
-    count_names(image, conditions, nodes, &mut counts);
-    lowest_wrong(&counts, nodes - 1)
+    count_names(routine, &mut counts);
+    lowest(routine.nodes - 1, |k| counts[k] != 1)
 }

@@ -1,7 +1,13 @@
 // The records of an image, as their fields.
-ghost use Rattle.std.specs.Prelude.{◌≡◌, ◌+◌, ◌*◌, ◌≤◌, length};
+ghost use Rattle.std.specs.Prelude.{◌≡◌, cond, ◌+◌, ◌*◌, ◌≤◌, length, get_or};
+ghost use Rattle.sets.specs.Member.{bit};
 ghost use Rattle.image.specs.Bytes.{number_at};
+ghost use Rattle.image.specs.Layout.{layout, condition_layout};
+ghost use Rattle.image.specs.Kinds.{kind_number, condition_kind_number};
 ghost use Rattle.image.specs.Records.{header_fields, condition_fields, node_fields, header, condition_record, node};
+
+use super::kinds::{ConditionKind, Kind};
+use sets::Set;
 
 #[derive(Clone, Copy)]
 pub struct Header {
@@ -33,22 +39,50 @@ pub struct Node {
     pub value: u32,
 }
 
-fn wide(x: u8) -> u64
-    ensures { result ≡ x }
-{
-    x as u64
-}
-
 // The number that n bytes from `at` make, most significant first.
 pub fn number_at(image: &[u8], at: usize, n: usize) -> u64
     requires { (n ≤ 8) × (at + n ≤ length image.now) }
     ensures { result ≡ number_at image.now at n }
 {
     let mut v: u64 = 0;
-    for i in 0..n {
-        v = v * 256 + wide(image[at + i]);
+    for byte in &image[at..at + n] {
+        v = v * 256 + u64::from(*byte);
     }
     v
+}
+
+impl ConditionRecord {
+    // The kind of a record that test 5 passes.
+    pub fn kind(self) -> ConditionKind
+        requires { condition_layout self.kind ≡ 0 → ⊥ }
+        ensures { condition_kind_number result ≡ self.kind }
+    {
+        ConditionKind::try_from(self.kind).unwrap()
+    }
+}
+
+impl Node {
+    // The kind of a node that test 6 passes.
+    pub fn kind(self) -> Kind
+        requires { layout self.kind ≡ 0 → ⊥ }
+        ensures { kind_number result ≡ self.kind }
+    {
+        Kind::try_from(self.kind).unwrap()
+    }
+
+    // "b if true, c if false".
+    pub fn side(self, test: bool) -> usize
+        ensures { result ≡ cond test self.b self.c }
+    {
+        if test { self.b } else { self.c }
+    }
+
+    // The side that stands for a choice: "b if s is in its condition, else .. c".
+    pub fn chosen(self, sets: &[u64], s: u64) -> usize
+        ensures { result ≡ cond (bit (get_or sets.now self.a 0) s) self.b self.c }
+    {
+        self.side(Set::at(sets, self.a).has(s))
+    }
 }
 
 // "Header, 64 bits: edition 8 (always 1), options F 4, condition count C 12, node count P 12, zero 28."

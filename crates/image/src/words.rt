@@ -10,9 +10,7 @@ pub fn put(out: &mut [u8], at: usize, w: u64, width: usize)
     ensures { out.new ≡ sets out.old at (bytes_of width w) }
 {
     let mut rest = w;
-    let mut i = width;
-    while 0 < i {
-        i -= 1;
+    for i in (0..width).rev() {
         out[at + i] = (rest % 256) as u8;
         rest /= 256;
     }

@@ -8,29 +8,21 @@ ghost use Rattle.imp.specs.Numbers.{low32, signed32, wrap};
 pub fn bits(a: i32) -> u32
     ensures { result ≡ low32 a }
 {
-    if a < 0 {
-        (a as i64 + 4294967296) as u32
-    } else {
-        a as u32
-    }
+    a.cast_unsigned()
 }
 
 // The 32 bits `n`, read as signed.
 pub fn signed(n: u32) -> i32
     ensures { result ≡ signed32 n }
 {
-    if n < 2147483648 {
-        n as i32
-    } else {
-        (n as i64 - 4294967296) as i32
-    }
+    n.cast_signed()
 }
 
 // "A sum that leaves the range wraps modulo 2^32 into the signed range".
 pub fn sum(a: i32, b: i32) -> i32
     ensures { result ≡ wrap (a +ℤ b) }
 {
-    signed(std::num::wrapping_add_u32(bits(a), bits(b)))
+    a.wrapping_add(b)
 }
 
 // "less compares signed".

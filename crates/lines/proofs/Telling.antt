@@ -3,6 +3,7 @@ use mathlib.Core.Path.{◌≡◌, sym, ◌∙◌, ap, ap₂}
 use mathlib.Core.List.{List, ◌++◌}
 use Prim.Native.Nat.{ℕ}
 use lib.IntN.{ℤ}
+use Rattle.std.specs.Prelude.{Result, Ok, Err}
 use Rattle.imp.specs.Shared.{Shared}
 use Rattle.image.specs.declared.refusals.Refusal.{Refusal}
 use Rattle.image.specs.Bytes.{Bytes}
@@ -13,8 +14,6 @@ use Rattle.image.specs.Sets.{settings}
 use Rattle.image.proofs.Theorem.Then.{judge_stops}
 use Rattle.image.proofs.Theorem.Carried.{carried, written_new, carried_again, refused_again}
 use Rattle.shared.specs.declared.Ends.{Ends}
-use Rattle.shared.specs.declared.SharedRun.{SharedRun}
-use Rattle.shared.specs.declared.SharedRun.TheVariants.{Ended, Refused}
 use Rattle.shared.specs.Lent.{Tally}
 use Rattle.shared.specs.SharedRun.{ends_of, tally_of, shared_rows, SharedRuns}
 use Rattle.lines.specs.Inner.Telling.{tallied, Blank}
@@ -28,20 +27,20 @@ module _ (l : Bytes) (set budget : ℕ) where
   abbrev Σ : Shared
   Σ = run_of l set budget
 
-  from_blank : {room : ℕ} {xs xs' : List ℤ} {T T' : Tally} {r : SharedRun} → Blank N xs T room
+  from_blank : {room : ℕ} {xs xs' : List ℤ} {T T' : Tally} {r : Result Ends Refusal} → Blank N xs T room
       → SharedRuns (shared_rows l set budget xs T) l set budget xs T xs' T' r
       → SharedRuns (run_rows l set budget) l set budget (zeros N) (blank N) xs' T' r
   unfolding run_rows
   from_blank b h = rw (b.store_is, b.tally_is) at h
 
   pub tell_refused : {room : ℕ} {xs xs' : List ℤ} {T T' : Tally} {r : Refusal} → Blank N xs T room
-      → SharedRuns (shared_rows l set budget xs T) l set budget xs T xs' T' (Refused r)
+      → SharedRuns (shared_rows l set budget xs T) l set budget xs T xs' T' (Err r)
       → refusal_line (number_of r) (place_of r) ≡ run_text l set budget
   unfolding told run_of
   tell_refused b h = sym (ap (told N) (refused_again (run_rows l set budget) (ends_of N Σ) Σ (from_blank b h).answered))
 
   pub tell_ended : {room : ℕ} {xs xs' : List ℤ} {T T' : Tally} {e : Ends} → Blank N xs T room
-      → SharedRuns (shared_rows l set budget xs T) l set budget xs T xs' T' (Ended e)
+      → SharedRuns (shared_rows l set budget xs T) l set budget xs T xs' T' (Ok e)
       → tallied N T' ++ last_line e ≡ run_text l set budget
   unfolding told run_of
   tell_ended b h =

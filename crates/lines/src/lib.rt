@@ -14,15 +14,15 @@ mod answer; // answer.rt: what is answered, and a text handed over
 mod input; // input.rt: the set and the budget
 mod line; // line.rt: lines
 
-pub use answer::Report;
+pub use answer::Short;
 use answer::hand_over;
-use image::accept::{Checked, check};
+use image::accept::check;
 use image::refusals::Refusal;
 pub use input::{budget_in, set_in};
 use line::{put_ends, put_lines};
 pub use line::{put_line, put_refusal};
 use sets::Set;
-use shared::{SharedRun, shared_run};
+use shared::shared_run;
 
 // A space that every text fits.
 pub const ENOUGH: usize = 2112;
@@ -50,8 +50,8 @@ fn tell_run(
         codes,
         steps,
     ) {
-        SharedRun::Refused(r) => put_refusal(out, r),
-        SharedRun::Ended(ends) => {
+        Err(r) => put_refusal(out, r),
+        Ok(ends) => {
             let at = put_lines(out, outcomes, codes, steps);
             put_ends(out, at, ends)
         }
@@ -90,8 +90,8 @@ fn tell(input: &[u8], out: &mut [u8]) -> usize
     }
     let image = &input[12..];
     match check(image) {
-        Checked::Refused(r) => put_refusal(out, r),
-        Checked::Good(shape) => {
+        Err(r) => put_refusal(out, r),
+        Ok(shape) => {
             let n = 1usize << shape.options;
             tell_image(image, n, set_in(input), budget_in(input), out)
         }
@@ -99,10 +99,10 @@ fn tell(input: &[u8], out: &mut [u8]) -> usize
 }
 
 // The text through a space of its own, which it is certain to fit.
-pub fn report(input: &[u8], out: &mut [u8]) -> Report
+pub fn report(input: &[u8], out: &mut [u8]) -> Result<usize, Short>
     ensures { Reports (text input.now) out.old out.new result }
 {
     let mut text = [0u8; ENOUGH];
     let n = tell(input, &mut text);
-    hand_over(&text, n, out)
+    hand_over(&text[..n], out)
 }

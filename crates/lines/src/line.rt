@@ -7,23 +7,24 @@ ghost use Rattle.lines.specs.Text.{line, last_line, refusal_line};
 ghost use Rattle.text.specs.Inner.Puts.{Puts};
 ghost use Rattle.lines.specs.Inner.Telling.{Lined, tallied};
 
-use image::refusals::{Refusal, number, place};
+use image::refusals::Refusal;
 use plain::progress::{FAULT, IDLE, LIVE, OUT, Progress};
 use shared::Ends;
 use text::{put, put_decimal, put_signed};
 
 // A number behind its word, and the byte that ends it.
+#[tactic(auto, using(crate::proofs::Room::room))]
 fn put_field(out: &mut [u8], at: usize, name: &[u8], n: usize, end: u8) -> usize
     requires { at + length (field name.now n end) ≤ length out.old }
     ensures { Puts (field name.now n end) at out.old out.new result }
 {
     let first = put(out, at, name);
     let last = put_decimal(out, first, n);
-    out[last] = end;
-    last + 1
+    put(out, last, &[end])
 }
 
 // "outcome in words (idle, done, fault, out)", between two spaces; no other number has a word.
+#[tactic(auto, unfolding(crate::specs::Words::word, crate::specs::Words::outcome_words))]
 fn put_word(out: &mut [u8], at: usize, outcome: u8) -> usize
     requires { at + 7 ≤ length out.old }
     ensures { Puts (space ++ (word outcome ++ space)) at out.old out.new result }
@@ -38,6 +39,7 @@ fn put_word(out: &mut [u8], at: usize, outcome: u8) -> usize
 }
 
 // The line of setting s.
+#[tactic(auto, using(crate::proofs::Room::room))]
 pub fn put_line(out: &mut [u8], at: usize, s: usize, p: Progress) -> usize
     requires { (s < 64) × (at + 32 ≤ length out.old) }
     ensures { Puts (line s p) at out.old out.new result }
@@ -56,15 +58,13 @@ pub fn put_lines(out: &mut [u8], outcomes: &[u8], codes: &[i32], steps: &[u32]) 
         out.old out.new result }
     ensures upper_bound { result ≤ 2048 }
 {
-    let mut at: usize = 0;
+    let mut at = 0;
+    // By the setting's number: its outcome, code and steps stand in three slices.
     for s in 0..outcomes.len() {
-        let outcome = outcomes[s];
-        let code = codes[s];
-        let count = steps[s];
         let p = Progress {
-            outcome: outcome,
-            code: code,
-            steps: count,
+            outcome: outcomes[s],
+            code: codes[s],
+            steps: steps[s],
         };
         at = put_line(out, at, s, p);
     }
@@ -72,6 +72,7 @@ pub fn put_lines(out: &mut [u8], outcomes: &[u8], codes: &[i32], steps: &[u32]) 
 }
 
 // "then visits and the number of members of the two sets".
+#[tactic(auto, using(crate::proofs::Room::room))]
 pub fn put_ends(out: &mut [u8], at: usize, ends: Ends) -> usize
     requires { at + 64 ≤ length out.old }
     ensures { Puts (last_line ends) at out.old out.new result }
@@ -84,10 +85,11 @@ pub fn put_ends(out: &mut [u8], at: usize, ends: Ends) -> usize
 }
 
 // "A refusal prints one line, its number and place".
+#[tactic(auto, using(crate::proofs::Room::room))]
 pub fn put_refusal(out: &mut [u8], r: Refusal) -> usize
     requires { 64 ≤ length out.old }
     ensures { Puts (refusal_line (number_of r) (place_of r)) 0 out.old out.new result }
 {
-    let first = put_field(out, 0, b"refused ", number(r) as usize, b' ');
-    put_field(out, first, b"at ", place(r), b'\n')
+    let first = put_field(out, 0, b"refused ", r.number() as usize, b' ');
+    put_field(out, first, b"at ", r.place(), b'\n')
 }

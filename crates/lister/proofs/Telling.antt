@@ -1,20 +1,21 @@
 -- What a listing leaves in its space, and that it is the answer to the stream that was read.
-use mathlib.Core.Path.{◌≡◌, refl, sym, ◌∙◌, ap}
-use mathlib.Core.List.{List, [], ◌++◌}
+use mathlib.Core.Path.{◌≡◌, sym, ◌∙◌, ap}
+use mathlib.Core.List.{List, ◌++◌}
 use Prim.Native.Nat.{ℕ, ◌≤◌, ◌<◌}
 use native.Mathlib.Decide.{dec_lt}
 use native.Mathlib.Omega.{arith}
 use lib.ListN.{length, take, drop, length-append, length-take}
 use lib.Seq.{length-take-le, take-append_seam}
+use Rattle.std.proofs.Common.{Result, Ok, Err, IfOk}
+use Rattle.image.specs.declared.refusals.Refusal.{Refusal}
 use Rattle.image.specs.Bytes.{Bytes, over}
-use Rattle.image.specs.Rows.{Row, Answer, refused, answer, judge}
-use Rattle.listing.specs.declared.Listed.{Listed}
-use Rattle.listing.specs.declared.Listed.TheVariants.{Length, Refused}
+use Rattle.image.specs.Rows.{Row, Answer, answer, judge}
+use Rattle.image.proofs.Theorem.Carried.{carried, written_new, carried_again, refused_again}
 use Rattle.listing.specs.Lists.{listing_of, list_rows, Lists}
+use Rattle.streams.specs.Streams.{as_told}
 use Rattle.streams.specs.Theorem.Whole.{whole}
-use Rattle.lister.specs.Stream.{most, enough, Tells, as_told, Inside}
+use Rattle.lister.specs.Stream.{most, enough, Tells}
 use Rattle.lister.specs.Theorem.Cut.{cut}
-use Rattle.lister.proofs.Judged.{mapped, judge_maps, no_answer, answered_is, all_written}
 
 -- ---- one call
 
@@ -22,44 +23,27 @@ module _ (rows : List Row) (l out out' : Bytes) where
   abbrev text : Bytes
   text = listing_of l
 
-  module _ (end : ℕ) (h : Lists rows l out out' (Length end)) where
-    all : judge rows (length text) ≡ answer end
-    all = sym h.answered
-
-    end_is : length text ≡ end
-    end_is = answered_is rows (length text) end all
+  module _ (end : ℕ) (h : Lists rows l out out' (Ok end)) where
+    end_is : end ≡ length text
+    end_is = (carried rows (length text) end h.answered).1
 
     left : out' ≡ text ++ drop (length text) out
     unfolding over
-    left = h.out_is ∙ all_written rows (length text) end _ _ all
+    left = h.out_is ∙ written_new rows _ _ (carried rows (length text) end h.answered).0
 
     fits : end ≤ length out'
     fits = omega (arith, end_is, ap length left, length-append text (drop (length text) out))
 
     found : take end out' ≡ text
-    found = ap (λ k. take k out') (sym end_is) ∙ ap (take (length text)) left ∙ take-append_seam text (drop (length text) out)
+    found = ap (λ k. take k out') end_is ∙ ap (take (length text)) left ∙ take-append_seam text (drop (length text) out)
 
-    listed_so : answer (take end out') ≡ judge rows text
-    listed_so = go (judge rows text) (sym all ∙ judge_maps length rows text) (λ y. answered_is rows text y)
-      where
-        go : (J : Answer Bytes) → answer end ≡ mapped length J → ((y : Bytes) → J ≡ answer y → text ≡ y) → answer (take end out') ≡ J
-        go (refused n p) e is = absurd (no_answer (sym e))
-        go (answer y) e is = ap answer (found ∙ is y refl)
+  told_so : (r : Result ℕ Refusal) → Lists rows l out out' r → as_told r out' ≡ judge rows text
+  told_so (Ok end) h = ap answer (found end h) ∙ sym (carried_again rows (length text) text h.answered)
+  told_so (Err r) h = sym (refused_again rows (length text) text h.answered)
 
-  refused_so : (n p : ℕ) → refused n p ≡ judge rows (length text) → refused n p ≡ judge rows text
-  refused_so n p e = go (judge rows text) (e ∙ judge_maps length rows text)
-    where
-      go : (J : Answer Bytes) → refused n p ≡ mapped length J → refused n p ≡ J
-      go (refused m q) e = ap (mapped (λ (k : ℕ). [])) e
-      go (answer y) e = absurd (no_answer e)
-
-  told_so : (r : Listed) → Lists rows l out out' r → as_told r out' ≡ judge rows text
-  told_so (Length end) h = listed_so end h
-  told_so (Refused r) h = refused_so _ _ h.answered
-
-  inside : (r : Listed) → Lists rows l out out' r → Inside r out'
-  inside (Length end) h = fits end h
-  inside (Refused r) h = tt
+  inside : (r : Result ℕ Refusal) → Lists rows l out out' r → IfOk r (λ end. end ≤ length out')
+  inside (Ok end) h = fits end h
+  inside (Err r) h = tt
 
 -- ---- the stream
 
@@ -77,8 +61,8 @@ tells image n a long h told = record { of_stream = λ stream same. go stream sam
         omega (arith, ap length first, length-take-le n image h, length-take most stream) in
         told ∙ ap (λ l. judge (list_rows l enough) (listing_of l)) first ∙ cut stream _ _ _ _ goes_on
 
-pub tells_so : (image : Bytes) (n : ℕ) {out out' : Bytes} {r : Listed} → length image ≡ most → n ≤ length image → length out ≡ enough
-    → Lists (list_rows (take n image) (length out)) (take n image) out out' r → Inside r out' × Tells image n (as_told r out')
+pub tells_so : (image : Bytes) (n : ℕ) {out out' : Bytes} {r : Result ℕ Refusal} → length image ≡ most → n ≤ length image → length out ≡ enough
+    → Lists (list_rows (take n image) (length out)) (take n image) out out' r → IfOk r (λ end. end ≤ length out') × Tells image n (as_told r out')
 tells_so image n {out} {out'} {r} long h space done =
     let l : Bytes = take n image in
     let rows : List Row = list_rows l (length out) in (

@@ -1,10 +1,7 @@
 -- What is read of a stream, and what is told of it. That `read` hands out the bytes of a stream in order is all that is assumed.
-use Rattle.std.specs.Prelude.{◌≡◌, ℕ, ◌≤◌, length, take}
+use Rattle.std.specs.Prelude.{◌≡◌, ℕ, length, take}
 use Rattle.image.specs.Bytes.{Bytes}
-use Rattle.image.specs.Refusals.{number_of, place_of}
-use Rattle.image.specs.Rows.{Answer, refused, answer, judge}
-use Rattle.listing.specs.declared.Listed.{Listed}
-use Rattle.listing.specs.declared.Listed.TheVariants.{Length, Refused}
+use Rattle.image.specs.Rows.{Answer, judge}
 use Rattle.listing.specs.Lists.{listing_of, list_rows}
 
 -- one beyond the longest image: 8 bytes, 256 conditions and 1,024 nodes
@@ -18,12 +15,3 @@ enough = 124692
 -- whatever stream the n bytes of `image` were read from, until its end or until `image` was full, this is the answer to it
 pub record Tells (image : Bytes) (n : ℕ) (told : Answer Bytes) : Type 0 where
   pub of_stream : (stream : Bytes) → take n image ≡ take (length image) stream → told ≡ judge (list_rows stream enough) (listing_of stream)
-
--- the text at the start of a space, or the refusal
-abbrev pub as_told : Listed → Bytes → Answer Bytes
-as_told (Length end) space = answer (take end space)
-as_told (Refused r) space = refused (number_of r) (place_of r)
-
-abbrev pub Inside : Listed → Bytes → Type 0
-Inside (Length end) space = end ≤ length space
-Inside (Refused r) space = Unit {0}

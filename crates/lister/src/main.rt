@@ -2,15 +2,16 @@
 // so on standard error.
 #![tactic(auto)]
 
-ghost use Rattle.std.specs.Prelude.{◌≡◌, ◌≤◌, length};
+ghost use Rattle.std.specs.Prelude.{◌≡◌, ◌≤◌, length, IfOk};
 ghost use Rattle.image.specs.Refusals.{number_of, place_of};
 ghost use Rattle.image.specs.Rows.{refused, answer};
-ghost use Rattle.lister.specs.Stream.{most, enough, Tells, as_told, Inside};
+ghost use Rattle.streams.specs.Streams.{as_told};
+ghost use Rattle.lister.specs.Stream.{most, enough, Tells};
 
 use image::refusals::Refusal;
-use listing::{Listed, list};
+use listing::list;
 use std::io::Write;
-use streams::{complain, read_input, refuse};
+use streams::{blank, complain, read_input, refuse};
 
 // One byte beyond the longest image: a stream that goes on is no image, and its refusal needs no later byte.
 const MOST: usize = 9225;
@@ -18,25 +19,19 @@ const MOST: usize = 9225;
 // A space that every listing fits.
 const ENOUGH: usize = 124692;
 
-// Zeros. The `ensures` gives only how many, and no proof has to look at so many of them.
-fn blank() -> [u8; ENOUGH]
-    ensures { enough ≡ length result }
-{
-    [0u8; ENOUGH]
-}
-
 // What listing the stream answers, with the text at the start of `space`.
-fn tell(image: &[u8], n: usize, space: &mut [u8]) -> Listed
+fn tell(image: &[u8], n: usize, space: &mut [u8]) -> Result<usize, Refusal>
     requires image_len { length image.now ≡ most }
     requires n_in_bounds { n ≤ length image.now }
     requires space_len { length space.old ≡ enough }
-    ensures inside { Inside result space.new }
+    ensures inside { IfOk result (λ end. end ≤ length space.new) }
     ensures tells { Tells image.now n (as_told result space.new) }
 {
     list(&image[..n], space)
 }
 
 // Writes nothing but the text of what was read; false if it cannot be written.
+// The reader has `give`, `deny` and `answer_to` too: each names its own program's answer to a stream.
 fn give<W: Write>(out: &mut W, image: &[u8], n: usize, text: &[u8]) -> bool
     requires { Tells image.now n (answer text.now) }
 {
@@ -55,23 +50,21 @@ fn answer_to<W: Write, E: Write>(out: &mut W, errors: &mut E, image: &[u8], n: u
     requires image_len { length image.now ≡ most }
     requires n_in_bounds { n ≤ length image.now }
 {
-    let mut space = blank();
+    let mut space = blank::<ENOUGH>();
     match tell(image, n, &mut space) {
-        Listed::Refused(r) => deny(errors, image, n, r),
-        Listed::Length(end) => {
+        Ok(end) => {
             if !give(out, image, n, &space[..end]) {
                 complain(errors, b"lister: the text cannot be written\n");
             }
         }
+        Err(r) => deny(errors, image, n, r),
     }
 }
 
 fn main(rt: HostRuntime) {
     let mut image = [0u8; MOST];
-    let got = read_input(&mut rt.stdin(), &mut image);
-    if got.failed {
-        complain(&mut rt.stderr(), b"lister: the image cannot be read\n");
-        return;
+    match read_input(&mut rt.stdin(), &mut image) {
+        Ok(n) => answer_to(&mut rt.stdout(), &mut rt.stderr(), &image, n),
+        Err(_) => complain(&mut rt.stderr(), b"lister: the image cannot be read\n"),
     }
-    answer_to(&mut rt.stdout(), &mut rt.stderr(), &image, got.bytes)
 }

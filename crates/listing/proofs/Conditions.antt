@@ -2,11 +2,12 @@
 use mathlib.Core.Path.{◌≡◌, refl, sym, ap, subst, ◌∙◌}
 use mathlib.Core.Bool.{true, cond}
 use mathlib.Core.List.{[]}
-use Prim.Native.Nat.{ℕ, ◌+◌, ◌*◌, ◌/◌, ◌%◌, ◌≤◌, ◌<◌}
+use Prim.Native.Nat.{ℕ, ◌+◌, ◌*◌, ◌/◌, ◌%◌, ◌<◌}
 use native.Mathlib.Omega.{arith}
 use lib.Dec.{eqb}
 use lib.IntN.{pos}
-use lib.ListN.{length, get_or}
+use lib.ListN.{length, get_or, take}
+use Rattle.std.proofs.lemmas.List.{get_or_default}
 use borrow.Author.Tests.{eqb-true, ne_eqb}
 use Rattle.image.specs.declared.records.ConditionRecord.{ConditionRecord}
 use Rattle.image.specs.Bytes.{Bytes}
@@ -14,15 +15,16 @@ use Rattle.image.specs.Records.{header, condition_record}
 use Rattle.image.specs.Layout.{condition_layout}
 use Rattle.image.specs.Rows.{condition_fits}
 use Rattle.image.specs.Tree.{condition}
-use Rattle.image.proofs.Theorem.ConditionHeld.{kind_below, left_below, right_below}
+use Rattle.image.proofs.Theorem.ConditionHeld.{known, kind_below, left_below, right_below}
 use Rattle.image.proofs.Theorem.Listed.{by_test}
 use Rattle.written.specs.Lister.{listedᶜ}
+use Rattle.text.specs.Inner.Puts.{Puts}
 use Rattle.listing.specs.Inner.Spelling.{condition_spelling, DOT, plainly, stands, spell}
 use Rattle.listing.specs.Inner.Texts.{condition_text, named, condition_parts}
 use Rattle.listing.specs.Inner.Listing.{condition_asks, condition_reach, ConditionListing, ConditionSigning}
 use Rattle.listing.proofs.Theorem.Signs.{condition_asked}
 use Rattle.listing.proofs.Theorem.Image.{condition_spelled_at}
-use Rattle.listing.proofs.Signs.{alike}
+use Rattle.listing.proofs.Signs.{alike, room}
 
 -- ---- the names that a sign asks for
 
@@ -89,26 +91,32 @@ otherwise l r s a b =
 
 -- ---- a condition as it was read
 
-module _ {l : Bytes} {k at space : ℕ} {r : ConditionRecord} (pre : ConditionListing l k at space) (is : r ≡ condition_record l k) where
-  pub spelled : condition_text l k ≡ spell (condition_parts (condition l) r) (condition_spelling r.kind)
-  spelled = rw is (condition_spelled_at l pre.accepted k pre.condition_below)
+pub kind_known : {l : Bytes} {k at space : ℕ} {r : ConditionRecord} → ConditionListing l k at space → r ≡ condition_record l k → condition_layout r.kind ≡ 0 → ⊥
+kind_known {l} {k} pre is = rw is (known (header l).options k (condition_record l k) (pre.accepted.conditions_fit k pre.condition_below))
+
+module _ {l signs : Bytes} {k at space : ℕ} {r : ConditionRecord} (pre : ConditionListing l k at space)
+    (is : r ≡ condition_record l k) (are : signs ≡ condition_spelling r.kind) where
+  pub spelled : spell (condition_parts (condition l) r) signs ≡ condition_text l k
+  spelled = rw (are, is) (sym (condition_spelled_at l pre.accepted k pre.condition_below))
 
   fits_here : condition_fits (header l).options k r ≡ true
   fits_here = subst (λ q. condition_fits (header l).options k q ≡ true) (sym is) (pre.accepted.conditions_fit k pre.condition_below)
 
-  asks_here : (i : ℕ) {sign : ℕ} → sign ≡ get_or (condition_spelling r.kind) i DOT → condition_asks r.kind sign ≡ true
-  asks_here i e = ap (condition_asks r.kind) e ∙ condition_asked r.kind (kind_below (header l).options k r fits_here) i
+  asked_here : (i : ℕ) → i < length signs → condition_asks r.kind (get_or signs i 0) ≡ true
+  asked_here i h =
+      ap (condition_asks r.kind) (sym (get_or_default signs i DOT 0 h)) ∙ rw are (condition_asked r.kind (kind_below (header l).options k r fits_here) i)
 
-  pub signing : (i : ℕ) {sign end space' : ℕ} → sign ≡ get_or (condition_spelling r.kind) i DOT
-      → end + length (stands (condition_parts (condition l) r) (get_or (condition_spelling r.kind) i DOT)) ≤ space' → ConditionSigning l r sign end space'
-  signing i e h = record {
+  pub falls : (i : ℕ) → i < length signs → condition_reach r (get_or signs i 0) < 2 * k + 2
+  falls i h = reach_low (header l).options k r fits_here (get_or signs i 0) (asked_here i h)
+
+  -- the sign that comes next may be put
+  pub signing : (i : ℕ) {end : ℕ} {out out' : Bytes} → i < length signs → length out' ≡ space
+      → Puts (spell (condition_parts (condition l) r) (take i signs)) at out out' end → ConditionSigning l r (get_or signs i 0) end (length out')
+  signing i h long put = record {
     accepted = pre.accepted;
     k = k;
     is_record = is;
     condition_below = pre.condition_below;
-    asked = asks_here i e;
-    fits = omega (arith, h, ap (λ s. length (stands (condition_parts (condition l) r) s)) e);
+    asked = asked_here i h;
+    fits = room (condition_parts (condition l) r) signs i h put (omega (arith, pre.fits, long, ap length spelled));
   }
-
-  pub falls : (i : ℕ) {sign : ℕ} → sign ≡ get_or (condition_spelling r.kind) i DOT → condition_reach r sign < 2 * k + 2
-  falls i {sign} e = reach_low (header l).options k r fits_here sign (asks_here i e)

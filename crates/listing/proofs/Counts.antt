@@ -4,10 +4,8 @@ use mathlib.Core.Bool.{Bool, true, false, cond}
 use mathlib.Core.List.{List}
 use Prim.Native.Nat.{ℕ, min, ◌+◌, ◌/◌, ◌%◌, ◌≤◌, ◌<◌}
 use native.Mathlib.Omega.{arith}
-use native.Mathlib.Decide.{ℕ_discrete}
 use lib.Dec.{eqb}
-use lib.ListN.{length, get_or, set}
-use lib.Seq.{get_or-set_same, get_or-set_other}
+use lib.ListN.{length, get_or}
 use borrow.Author.Tests.{eqb-true, ltb-true}
 use Rattle.image.specs.declared.records.ConditionRecord.{ConditionRecord}
 use Rattle.image.specs.declared.records.Node.{Node}
@@ -22,16 +20,6 @@ use Rattle.image.proofs.Theorem.Listed.{by_test}
 use Rattle.written.specs.Count.{sizeᶜ}
 use Rattle.listing.specs.Inner.Counting.{capped, Sizing, node_records, field_records, Counting, Field}
 use Rattle.listing.proofs.Theorem.Counted.{held, node_counted, named_size, condition_sized}
-
--- ---- a table with one number more
-
-pub more : (f : ℕ → ℕ) (n w : ℕ) (table : List ℕ) → n < length table → ((k : ℕ) → k < n → get_or table k 0 ≡ f k) → w ≡ f n
-    → (k : ℕ) → k < n + 1 → get_or (set table n w) k 0 ≡ f k
-more f n w table h before this k i = go (ℕ_discrete k n)
-  where
-    go : Dec (k ≡ n) → get_or (set table n w) k 0 ≡ f k
-    go (yes e) = rw (e, get_or-set_same table n w 0 h) this
-    go (no e) = rw (get_or-set_other table n k w 0 e) (before k (omega arith))
 
 -- ---- a condition as it was read
 
@@ -50,7 +38,7 @@ module _ {l : Bytes} {k : ℕ} {sizes : List ℕ} {r : ConditionRecord} {digits 
   right_there e = omega (arith, right_low e, pre.before.kept)
 
   in-name : (digit value : ℕ) → (digit ≡ 1 → value < k) → cond (eqb digit 1) (get_or sizes value 0) 0 ≡ capped (named_size (condition l) digit value)
-  unfolding named_size capped
+  unfolding named_size
   in-name digit value low =
       by_test (eqb digit 1) (λ u. cond u (get_or sizes value 0) 0 ≡ min (cond u (sizeᶜ (condition l value)) 0) 257)
       (λ e. pre.before.right value (low (eqb-true digit 1 e))) (λ e. omega arith)
@@ -60,7 +48,6 @@ module _ {l : Bytes} {k : ℕ} {sizes : List ℕ} {r : ConditionRecord} {digits 
 
   pub whole_size : {x y : ℕ} → x ≡ cond (eqb (digits / 8 % 8) 1) (get_or sizes r.left 0) 0 → y ≡ cond (eqb (digits % 8) 1) (get_or sizes r.right 0) 0
       → (x ≤ 257) × (y ≤ 257) × ((all : ℕ) → all ≡ x + y + 1 → capped all ≡ capped (sizeᶜ (condition l k)))
-  unfolding capped
   whole_size p q =
       let a = in-name (digits / 8 % 8) r.left left_low in
       let b = in-name (digits % 8) r.right right_low in
@@ -90,15 +77,15 @@ in-conditions C n ν fits = go (eqb ν.kind 0) refl
         let f : Fitted C n ν = fitted C n ν fits e in
         record { a_in = slot_low C n _ ν.a f.a_fits; b_in = slot_low C n _ ν.b f.b_fits; c_in = slot_low C n _ ν.c f.c_fits }
 
-module _ {l : Bytes} {conditions n : ℕ} {sizes records : List ℕ} {ν : Node} {digits : ℕ}
-    (pre : Counting l conditions n sizes records) (is : ν ≡ node l n) (lay : digits ≡ layout ν.kind) where
+module _ {l : Bytes} {n : ℕ} {sizes records : List ℕ} {ν : Node} {digits : ℕ}
+    (pre : Counting l n sizes records) (is : ν ≡ node l n) (lay : digits ≡ layout ν.kind) where
   abbrev fits : node_fits (header l).conditions n (node l n) ≡ true
-  fits = pre.good.accepted.nodes_fit n pre.node_below
+  fits = pre.accepted.nodes_fit n pre.node_below
 
   field : (slot value : ℕ) → (names_node slot ≡ true → value < n) → (slot ≡ 4 → value < (header l).conditions) → Field slot value sizes records
   field slot value low held_in = record {
     node_there = λ e. omega (arith, low e, pre.before.kept);
-    condition_there = λ e. omega (arith, held_in e, pre.good.conditions_are, pre.sizes_are.kept);
+    condition_there = λ e. omega (arith, held_in e, pre.sizes_are.kept);
   }
 
   pub field_a : Field (a_digit digits) ν.a sizes records
@@ -112,13 +99,13 @@ module _ {l : Bytes} {conditions n : ℕ} {sizes records : List ℕ} {ν : Node}
 
   looked_up : (slot value : ℕ) → (names_node slot ≡ true → value < n) → (slot ≡ 4 → value < (header l).conditions)
       → cond (names_node slot) (get_or records value 0) (cond (eqb slot 4) (get_or sizes value 0) 0) ≡ capped (held l slot value)
-  unfolding held field_records capped
+  unfolding held field_records
   looked_up slot value low held_in =
       by_test (names_node slot)
       (λ u. cond u (get_or records value 0) (cond (eqb slot 4) (get_or sizes value 0) 0) ≡ min (cond u (node_records l value) (cond (eqb slot 4) (sizeᶜ (condition l value)) 0)) 257)
       (λ e. pre.before.right value (low e))
       (λ _. by_test (eqb slot 4) (λ u. cond u (get_or sizes value 0) 0 ≡ min (cond u (sizeᶜ (condition l value)) 0) 257)
-      (λ e. pre.sizes_are.right value (omega (arith, held_in (eqb-true slot 4 e), pre.good.conditions_are))) (λ e. omega arith))
+      (λ e. pre.sizes_are.right value (held_in (eqb-true slot 4 e))) (λ e. omega arith))
 
   -- what the lists have of a field
   abbrev listed : ℕ → ℕ → ℕ
@@ -134,9 +121,8 @@ module _ {l : Bytes} {conditions n : ℕ} {sizes records : List ℕ} {ν : Node}
   in_c = rw (lay, is) (looked_up _ _ (lower _ n (node l n) fits).c_lower (in-conditions _ n (node l n) fits).c_in)
 
   all : node_records l n ≡ held l (a_digit digits) ν.a + held l (b_digit digits) ν.b + held l (c_digit digits) ν.c
-  all = rw (lay, is) (node_counted l pre.good.accepted n pre.node_below)
+  all = rw (lay, is) (node_counted l pre.accepted n pre.node_below)
 
   pub whole_count : {x y z : ℕ} → x ≡ listed (a_digit digits) ν.a → y ≡ listed (b_digit digits) ν.b → z ≡ listed (c_digit digits) ν.c
       → (x ≤ 257) × (y ≤ 257) × (z ≤ 257) × (capped (x + y + z) ≡ capped (node_records l n))
-  unfolding capped
   whole_count p q r = (omega (arith, p, in_a), omega (arith, q, in_b), omega (arith, r, in_c), omega (arith, p, q, r, in_a, in_b, in_c, all))

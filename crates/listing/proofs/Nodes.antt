@@ -5,7 +5,8 @@ use mathlib.Core.List.{[]}
 use Prim.Native.Nat.{ℕ, suc, ◌+◌, ◌*◌, ◌≤◌, ◌<◌}
 use native.Mathlib.Omega.{arith}
 use lib.Dec.{eqb}
-use lib.ListN.{length, get_or}
+use lib.ListN.{length, get_or, take}
+use Rattle.std.proofs.lemmas.List.{get_or_default}
 use borrow.Author.Tests.{eqb-true, ne_eqb}
 use Rattle.imp.specs.Numbers.{signed32}
 use Rattle.image.specs.declared.records.Node.{Node}
@@ -17,9 +18,11 @@ use Rattle.image.specs.Inner.Lower.{Lower}
 use Rattle.image.proofs.Theorem.Lower.{lower}
 use Rattle.image.proofs.Theorem.Choosing.{choice_condition}
 use Rattle.image.proofs.Theorem.Listed.{by_test}
+use Rattle.text.specs.Inner.Puts.{Puts}
 use Rattle.listing.specs.Inner.Spelling.{spelling, DOT, plainly, stands, spell}
 use Rattle.listing.specs.Inner.Texts.{node_text, all_short, field_text, node_parts, parts_at, condition_text}
 use Rattle.listing.specs.Inner.Listing.{asks, reach, Listing, Signing, ConditionListing}
+use Rattle.listing.proofs.Signs.{room}
 use Rattle.listing.proofs.Theorem.Signs.{asked}
 use Rattle.listing.proofs.Theorem.Image.{known, node_spelled}
 
@@ -64,9 +67,9 @@ pub record Stands (l : Bytes) (ν : Node) (level n sign x level' : ℕ) : Type 0
   pub is_lower : x < n
   pub reach_is : reach ν sign ≡ 2 * x + 3
 
-module _ {l : Bytes} {conditions : ℕ} {ν : Node} {flat : Bool} {level sign at space : ℕ} (pre : Signing l conditions ν flat level sign at space) where
+module _ {l : Bytes} {ν : Node} {flat : Bool} {level sign at space : ℕ} (pre : Signing l ν flat level sign at space) where
   low : Lower pre.n ν
-  low = subst (Lower pre.n) (sym pre.is_node) (lower (header l).conditions pre.n (node l pre.n) (pre.good.accepted.nodes_fit pre.n pre.node_below))
+  low = subst (Lower pre.n) (sym pre.is_node) (lower (header l).conditions pre.n (node l pre.n) (pre.accepted.nodes_fit pre.n pre.node_below))
 
   asks_here : {key : ℕ} → sign ≡ key → asks ν.kind key ≡ true
   asks_here = asks_at pre.n ν low sign pre.asked
@@ -117,9 +120,9 @@ module _ {l : Bytes} {conditions : ℕ} {ν : Node} {flat : Bool} {level sign at
   }
 
   -- that node may be listed in its place
-  pub listing : {x level' : ℕ} → level' ≤ level + 1 → Stands l ν level pre.n sign x level' → Listing l conditions x level' at space
+  pub listing : {x level' : ℕ} → level' ≤ level + 1 → Stands l ν level pre.n sign x level' → Listing l x level' at space
   listing h s = record {
-    good = pre.good;
+    accepted = pre.accepted;
     node_below = omega (arith, s.is_lower, pre.node_below);
     level_few = omega (arith, s.is_lower, pre.level_few);
     fits = omega (arith, pre.fits, ap length s.text_is);
@@ -135,8 +138,8 @@ module _ {l : Bytes} {conditions : ℕ} {ν : Node} {flat : Bool} {level sign at
   k_listing e =
       let chooses : is_choice (node l pre.n).kind ≡ true = subst (λ (μ : Node). is_choice μ.kind ≡ true) pre.is_node (asks_here e) in
       record {
-        accepted = pre.good.accepted;
-        condition_below = subst (λ (μ : Node). μ.a < (header l).conditions) (sym pre.is_node) (choice_condition l pre.good.accepted pre.n pre.node_below chooses);
+        accepted = pre.accepted;
+        condition_below = subst (λ (μ : Node). μ.a < (header l).conditions) (sym pre.is_node) (choice_condition l pre.accepted pre.n pre.node_below chooses);
         fits = omega (arith, pre.fits, ap length (k_text e));
       }
 
@@ -150,28 +153,30 @@ module _ {l : Bytes} {conditions : ℕ} {ν : Node} {flat : Bool} {level sign at
 
 -- ---- a node as it was read
 
-module _ {l : Bytes} {conditions n level at space : ℕ} {ν : Node} (pre : Listing l conditions n level at space) (is : ν ≡ node l n) where
-  pub spelled : node_text l level n ≡ spell (parts_at l level ν) (spelling ν.kind)
-  spelled = rw is (node_spelled l pre.good.accepted n pre.node_below level)
+module _ {l signs : Bytes} {n level at space : ℕ} {ν : Node} (pre : Listing l n level at space)
+    (is : ν ≡ node l n) (are : signs ≡ spelling ν.kind) where
+  pub spelled : spell (parts_at l level ν) signs ≡ node_text l level n
+  spelled = rw (are, is) (sym (node_spelled l pre.accepted n pre.node_below level))
 
-  asked_here : (i : ℕ) {sign : ℕ} → sign ≡ get_or (spelling ν.kind) i DOT → asks ν.kind sign ≡ true
-  asked_here i e =
-      ap (asks ν.kind) e
-      ∙ asked ν.kind (subst (λ (μ : Node). layout μ.kind ≡ 0 → ⊥) (sym is) (known (header l).conditions n (node l n) (pre.good.accepted.nodes_fit n pre.node_below))) i
+  asked_here : (i : ℕ) → i < length signs → asks ν.kind (get_or signs i 0) ≡ true
+  asked_here i h =
+      ap (asks ν.kind) (sym (get_or_default signs i DOT 0 h))
+      ∙ rw (are, is) (asked (node l n).kind (known (header l).conditions n (node l n) (pre.accepted.nodes_fit n pre.node_below)) i)
 
-  pub signing : (i : ℕ) {flat : Bool} {sign end space' : ℕ} → flat ≡ all_short (read l) ν → sign ≡ get_or (spelling ν.kind) i DOT
-      → end + length (stands (parts_at l level ν) (get_or (spelling ν.kind) i DOT)) ≤ space' → Signing l conditions ν flat level sign end space'
-  signing i f e h = record {
-    good = pre.good;
+  pub falls : (i : ℕ) → i < length signs → reach ν (get_or signs i 0) < 2 * n + 2
+  falls i h =
+      reach_low n ν (subst (Lower n) (sym is) (lower (header l).conditions n (node l n) (pre.accepted.nodes_fit n pre.node_below))) (get_or signs i 0) (asked_here i h)
+
+  -- the sign that comes next may be put
+  pub signing : (i : ℕ) {flat : Bool} {end : ℕ} {out out' : Bytes} → i < length signs → flat ≡ all_short (read l) ν → length out' ≡ space
+      → Puts (spell (parts_at l level ν) (take i signs)) at out out' end → Signing l ν flat level (get_or signs i 0) end (length out')
+  signing i h f long put = record {
+    accepted = pre.accepted;
     n = n;
     is_node = is;
     node_below = pre.node_below;
     flat_is = f;
     level_few = pre.level_few;
-    asked = asked_here i e;
-    fits = omega (arith, h, ap (λ s. length (stands (parts_at l level ν) s)) e);
+    asked = asked_here i h;
+    fits = room (parts_at l level ν) signs i h put (omega (arith, pre.fits, long, ap length spelled));
   }
-
-  pub falls : (i : ℕ) {sign : ℕ} → sign ≡ get_or (spelling ν.kind) i DOT → reach ν sign < 2 * n + 2
-  falls i {sign} e =
-      reach_low n ν (subst (Lower n) (sym is) (lower (header l).conditions n (node l n) (pre.good.accepted.nodes_fit n pre.node_below))) sign (asked_here i e)

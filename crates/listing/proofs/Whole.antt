@@ -1,4 +1,5 @@
 -- The whole listing: its parts, how long it is, and the three answers that are left once an image is accepted.
+use Rattle.std.proofs.Common.{Ok, Err}
 use mathlib.Core.Path.{◌≡◌, ap, ap₂, ◌∙◌}
 use mathlib.Core.List.{List, ◌++◌}
 use Prim.Native.Nat.{ℕ, ◌+◌, ◌-◌, ◌≤◌, ◌<◌}
@@ -20,7 +21,6 @@ use Rattle.written.specs.Word.{bytes}
 use Rattle.written.specs.Lister.{listedˢ, listed}
 use Rattle.written.proofs.Theorem.Length.{LONGEST, at_most}
 use Rattle.written.proofs.Theorem.ImageTree.{routine_under, routine_valid, routine_size}
-use Rattle.listing.specs.declared.Listed.TheVariants.{Length, Refused}
 use Rattle.listing.specs.Lists.{listing_of, text_rows, Lists}
 use Rattle.listing.specs.Inner.Texts.{node_text}
 use Rattle.listing.specs.Inner.Counting.{capped}
@@ -37,10 +37,6 @@ module _ {l : Bytes} {shape : Shape} (pre : Shaped l shape) where
   pub options_are : shape.options ≡ (header l).options
   unfolding shape_of
   options_are = ap (λ (h : Shape). h.options) pre.shape_is
-
-  pub conditions_are : shape.conditions ≡ (header l).conditions
-  unfolding shape_of
-  conditions_are = ap (λ (h : Shape). h.conditions) pre.shape_is
 
   pub nodes_are : shape.nodes ≡ (header l).nodes
   unfolding shape_of
@@ -75,24 +71,22 @@ module _ {l : Bytes} {shape : Shape} (pre : Shaped l shape) where
 -- ---- records, counted up to 257
 
 pub over_limit : {r n : ℕ} → r ≡ capped n → 256 < r → 256 < n
-unfolding capped
 over_limit e h = omega arith
 
 pub within_limit : {r n : ℕ} → r ≡ capped n → r ≤ 256 → n ≤ 256
-unfolding capped
 within_limit e h = omega arith
 
 -- ---- the three answers
 
 module _ (l out : Bytes) where
-  pub too_many : 256 < recordsˢ (routine l) → Lists (text_rows l (length out)) l out out (Refused (TooMany 0))
+  pub too_many : 256 < recordsˢ (routine l) → Lists (text_rows l (length out)) l out out (Err (TooMany 0))
   unfolding text_rows judge written
   too_many h =
       let fails = lt-ltb 256 (recordsˢ (routine l)) h in
       record { answered = rw fails; out_is = rw fails }
 
   module _ (few : recordsˢ (routine l) ≤ 256) where
-    pub too_short : {end : ℕ} → end ≡ length (listing_of l) → length out < end → Lists (text_rows l (length out)) l out out (Refused SpaceShort)
+    pub too_short : {end : ℕ} → end ≡ length (listing_of l) → length out < end → Lists (text_rows l (length out)) l out out (Err SpaceShort)
     unfolding text_rows judge written
     too_short e h =
         let passes = le-ltb 256 (recordsˢ (routine l)) few in
@@ -100,7 +94,7 @@ module _ (l out : Bytes) where
         record { answered = rw (passes, fails); out_is = rw (passes, fails) }
 
     pub stored : {out' : Bytes} {end : ℕ} → length (listing_of l) ≤ length out → Puts (listing_of l) 0 out out' end
-        → Lists (text_rows l (length out)) l out out' (Length end)
+        → Lists (text_rows l (length out)) l out out' (Ok end)
     unfolding text_rows judge written over
     stored {out'} {end} h p =
         let first = le-ltb 256 (recordsˢ (routine l)) few in

@@ -12,8 +12,9 @@ mod short; // short.rt: whether the parts of a statement are short
 mod spelling; // spelling.rt: the signs of each kind
 mod write; // write.rt: nodes and conditions, sign by sign
 
-use image::accept::{Checked, Shape, check};
+use image::accept::{Shape, check};
 use image::refusals::Refusal;
+use image::routine::Routine;
 use records::written_records;
 use text::{put, put_decimal};
 use write::list_node;
@@ -24,13 +25,6 @@ const RECORDS: usize = 256;
 // A space that every listing fits.
 const LONGEST: usize = 124692;
 
-// The length written, or the refusal.
-#[derive(Clone, Copy)]
-pub enum Listed {
-    Length(usize),
-    Refused(Refusal),
-}
-
 // "It begins with `options` and F."
 fn put_listing(image: &[u8], shape: Shape, out: &mut [u8]) -> usize
     requires { Fitting image.now shape (length out.old) }
@@ -40,33 +34,30 @@ fn put_listing(image: &[u8], shape: Shape, out: &mut [u8]) -> usize
     let word = put(out, 0, b"options ");
     let count = put_decimal(out, word, shape.options as usize);
     let line = put(out, count, b"\n");
-    let end = list_node(image, shape.conditions, root, 0, line, out);
+    let end = list_node(Routine::of(image, shape), root, 0, line, out);
     put(out, end, b"\n")
 }
 
 // The last tests, 18 and 14. The text goes through a space of its own, which it is certain to fit.
-fn list_good(image: &[u8], shape: Shape, out: &mut [u8]) -> Listed
+fn list_good(image: &[u8], shape: Shape, out: &mut [u8]) -> Result<usize, Refusal>
     requires { Shaped image.now shape }
     ensures { Lists (text_rows image.now (length out.old)) image.now out.old out.new result }
 {
-    if RECORDS < written_records(image, shape.conditions, shape.nodes) {
-        return Listed::Refused(Refusal::TooMany(0));
+    if RECORDS < written_records(Routine::of(image, shape)) {
+        return Err(Refusal::TooMany(0));
     }
     let mut text = [0u8; LONGEST];
     let end = put_listing(image, shape, &mut text);
     if out.len() < end {
-        return Listed::Refused(Refusal::SpaceShort);
+        return Err(Refusal::SpaceShort);
     }
-    let length = put(out, 0, &text[..end]);
-    Listed::Length(length)
+    Ok(put(out, 0, &text[..end]))
 }
 
-// "The lister prints one spelling per tree": refusals 1 to 8, 18, 14.
-pub fn list(image: &[u8], out: &mut [u8]) -> Listed
+// "The lister prints one spelling per tree": the length written, or refusals 1 to 8, 18, 14.
+pub fn list(image: &[u8], out: &mut [u8]) -> Result<usize, Refusal>
     ensures { Lists (list_rows image.now (length out.old)) image.now out.old out.new result }
 {
-    match check(image) {
-        Checked::Refused(r) => Listed::Refused(r),
-        Checked::Good(shape) => list_good(image, shape, out),
-    }
+    let shape = check(image)?;
+    list_good(image, shape, out)
 }

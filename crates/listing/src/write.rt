@@ -1,5 +1,5 @@
 // A node or a condition, written sign by sign from a place on; the answer is the place behind it.
-ghost use Rattle.std.specs.Prelude.{◌+◌, length};
+ghost use Rattle.std.specs.Prelude.{length};
 ghost use Rattle.text.specs.Inner.Puts.{Puts};
 ghost use Rattle.imp.specs.Numbers.{signed32};
 ghost use Rattle.image.specs.Tree.{condition};
@@ -9,12 +9,14 @@ ghost use Rattle.listing.specs.Inner.Listing.{Listing, Signing, Plain, Condition
 
 use crate::gap::{put_gap, put_line};
 use crate::short::all_short;
-use crate::spelling::{CONDITION_SIGNS, SIGNS, condition_sign, sign};
-use image::{ConditionRecord, Node, condition_at, node_at};
+use crate::spelling::{condition_spelling, spelling};
+use image::routine::Routine;
+use image::{ConditionRecord, Node};
 use imp::signed;
 use text::{put_decimal, put_signed};
 
 // What stands for a sign that is no part, of a record with this variable or option and this number.
+#[tactic(auto, unfolding(crate::specs::Inner::Spelling::plainly))]
 fn put_plain(
     variable: usize,
     value: u32,
@@ -43,41 +45,39 @@ fn put_plain(
 
 #[cycle(list_condition_put_condition_sign)]
 fn put_condition_sign(
-    image: &[u8],
+    routine: Routine<'_>,
     r: ConditionRecord,
     sign: u8,
     at: usize,
     out: &mut [u8],
 ) -> usize
-    requires { ConditionSigning image.now r sign at (length out.old) }
-    ensures { Puts (stands (condition_parts (condition image.now) r) sign) at out.old out.new result }
+    requires { ConditionSigning routine.image.now r sign at (length out.old) }
+    ensures { Puts (stands (condition_parts (condition routine.entry.image.now) r) sign) at out.old out.new result }
 {
     match sign {
-        b'A' => list_condition(image, r.left, at, out),
-        b'B' => list_condition(image, r.right, at, out),
+        b'A' => list_condition(routine, r.left, at, out),
+        b'B' => list_condition(routine, r.right, at, out),
         _ => put_plain(r.option as usize, 0, true, 0, sign, at, out),
     }
 }
 
-// Condition k, written out.
+// Condition k, written out. It and `list_node` stay two: their records have other fields, and a condition has no level.
 #[cycle(list_condition_put_condition_sign)]
-fn list_condition(image: &[u8], k: usize, at: usize, out: &mut [u8]) -> usize
-    requires { ConditionListing image.now k at (length out.old) }
-    ensures { Puts (condition_text image.now k) at out.old out.new result }
+fn list_condition(routine: Routine<'_>, k: usize, at: usize, out: &mut [u8]) -> usize
+    requires { ConditionListing routine.image.now k at (length out.old) }
+    ensures { Puts (condition_text routine.entry.image.now k) at out.old out.new result }
 {
-    let r = condition_at(image, k);
+    let r = routine.condition(k);
     let mut end = at;
-    for i in 0..CONDITION_SIGNS {
-        let s = condition_sign(r.kind, i);
-        end = put_condition_sign(image, r, s, end, out);
+    for &sign in condition_spelling(r.kind()) {
+        end = put_condition_sign(routine, r, sign, end, out);
     }
     end
 }
 
 #[cycle(list_node_put_sign)]
 fn put_sign(
-    image: &[u8],
-    conditions: usize,
+    routine: Routine<'_>,
     node: Node,
     flat: bool,
     level: usize,
@@ -85,39 +85,31 @@ fn put_sign(
     at: usize,
     out: &mut [u8],
 ) -> usize
-    requires { Signing image.now conditions node flat level sign at (length out.old) }
-    ensures { Puts (stands (parts_at image.now level node) sign) at out.old out.new result }
+    requires { Signing routine.image.now node flat level sign at (length out.old) }
+    ensures { Puts (stands (parts_at routine.entry.image.now level node) sign) at out.old out.new result }
 {
     match sign {
-        b'A' => list_node(image, conditions, node.a, level + 1, at, out),
-        b'B' => list_node(image, conditions, node.b, level + 1, at, out),
-        b'C' => list_node(image, conditions, node.c, level + 1, at, out),
-        b'X' => list_node(image, conditions, node.a, level, at, out),
-        b'Y' => list_node(image, conditions, node.b, level, at, out),
-        b'K' => list_condition(image, node.a, at, out),
+        b'A' => list_node(routine, node.a, level + 1, at, out),
+        b'B' => list_node(routine, node.b, level + 1, at, out),
+        b'C' => list_node(routine, node.c, level + 1, at, out),
+        b'X' => list_node(routine, node.a, level, at, out),
+        b'Y' => list_node(routine, node.b, level, at, out),
+        b'K' => list_condition(routine, node.a, at, out),
         _ => put_plain(node.variable, node.value, flat, level, sign, at, out),
     }
 }
 
 // Node n at a level.
 #[cycle(list_node_put_sign)]
-pub fn list_node(
-    image: &[u8],
-    conditions: usize,
-    n: usize,
-    level: usize,
-    at: usize,
-    out: &mut [u8],
-) -> usize
-    requires { Listing image.now conditions n level at (length out.old) }
-    ensures { Puts (node_text image.now level n) at out.old out.new result }
+pub fn list_node(routine: Routine<'_>, n: usize, level: usize, at: usize, out: &mut [u8]) -> usize
+    requires { Listing routine.image.now n level at (length out.old) }
+    ensures { Puts (node_text routine.entry.image.now level n) at out.old out.new result }
 {
-    let node = node_at(image, conditions, n);
-    let flat = all_short(image, conditions, node);
+    let node = routine.node(n);
+    let flat = all_short(routine, node);
     let mut end = at;
-    for i in 0..SIGNS {
-        let s = sign(node.kind, i);
-        end = put_sign(image, conditions, node, flat, level, s, end, out);
+    for &sign in spelling(node.kind()) {
+        end = put_sign(routine, node, flat, level, sign, end, out);
     }
     end
 }

@@ -51,15 +51,23 @@ unfolding state_of
 passes b p h dead =
     record { entered = λ ns. sym (enter_dead b (state_of p ns) (live_is p.outcome p.code ∙ ne_eqb p.outcome 1 dead)); proper = h }
 
-pub steps_on : (b : ℕ) (p : Progress) → p.outcome ≡ 1 → p.steps < b → Began b p (record { outcome = 1; code = pos 0; steps = p.steps + 1 })
-unfolding state_of enter ready spent live outcome_from
-steps_on b p e h =
-    let more : p.steps + 1 ≡ suc p.steps = omega arith in
-    record { entered = λ ns. rw (e, lt-ltb p.steps b h, more) refl; proper = proper_done }
+-- a live setting has no code
+no_code : {o : ℕ} {c : ℤ} → o ≡ 1 → Proper o c → c ≡ pos 0
+unfolding outcome_from code
+no_code {c = c} e h = sym h.code_is ∙ ap (λ o. code (outcome_from o c)) e
 
-pub runs_out : (b : ℕ) (p : Progress) → p.outcome ≡ 1 → b ≤ p.steps → Began b p (record { outcome = 3; code = pos 0; steps = p.steps })
+pub steps_on : (b : ℕ) (p : Progress) {x : ℤ} → Proper p.outcome p.code → p.outcome ≡ 1 → p.steps < b → x ≡ p.code
+    → Began b p (record { outcome = p.outcome; code = x; steps = p.steps + 1 })
 unfolding state_of enter ready spent live outcome_from
-runs_out b p e h = record { entered = λ ns. rw (e, le-ltb p.steps b h) refl; proper = proper_out }
+steps_on b p h e lt same =
+    let more : p.steps + 1 ≡ suc p.steps = omega arith in
+    record { entered = λ ns. rw (e, lt-ltb p.steps b lt, more) refl; proper = rw same h }
+
+pub runs_out : (b : ℕ) (p : Progress) {x : ℤ} → Proper p.outcome p.code → p.outcome ≡ 1 → b ≤ p.steps → x ≡ p.code
+    → Began b p (record { outcome = 3; code = x; steps = p.steps })
+unfolding state_of enter ready spent live outcome_from
+runs_out b p h e le same =
+    record { entered = λ ns. rw (e, le-ltb p.steps b le) refl; proper = rw (same, no_code e h) proper_out }
 
 -- ---- what follows
 

@@ -2,7 +2,7 @@
 use mathlib.Core.Path.{◌≡◌, refl, sym, ◌∙◌, ap}
 use mathlib.Core.Bool.{Bool, true, false, not, ◌&&◌, cond}
 use mathlib.Core.List.{List}
-use Prim.Native.Nat.{ℕ, ◌+◌, ◌*◌, ◌≤◌, ◌<◌}
+use Prim.Native.Nat.{ℕ, ◌<◌}
 use native.Mathlib.Omega.{arith}
 use lib.Dec.{eqb, ltb}
 use lib.IntN.{ℤ, pos, ◌+ℤ◌}
@@ -24,11 +24,15 @@ use Rattle.image.specs.Layout.{kinds, layout, class_digit, a_digit, b_digit, c_d
 use Rattle.image.specs.Rows.{node_fits, class, classed}
 use Rattle.image.specs.Tree.{condition, read}
 use Rattle.image.specs.Accepted.{Accepted}
+use Rattle.image.specs.Inner.Ready.{Ready}
 use Rattle.image.proofs.Theorem.Choosing.{choice_condition, chosen_is}
 use Rattle.image.proofs.Theorem.Held.{Child, child_a, child_b, child_c, variable_below}
 use Rattle.image.proofs.Theorem.Kinds.{kind_cases}
 use Rattle.image.proofs.Theorem.Lower.{both}
 use Rattle.image.proofs.Theorem.Reading.{number_at, variable_at, sum_at, pick_at, choiceᵃ_at, falseᵇ_at, trueᵇ_at, notᵇ_at, andᵇ_at, less_at, choiceᵇ_at}
+use Rattle.image.specs.declared.kinds.Kind.{Kind}
+use Rattle.image.specs.declared.kinds.Kind.TheVariants.{Number, Variable, Sum, Pick, False, True, Not, And, Less}
+use Rattle.image.specs.Kinds.{kind_number}
 use Rattle.plain.specs.Inner.Evaluating.{Evaluating}
 
 -- a kind of class 1 is 0 to 4, one of class 2 is 8 to 13, one of class 3 is 16 to 23
@@ -52,20 +56,16 @@ of_side f false x y = refl
 pub through : {x z : ℤ} → mag x < 2147483648 → x ≡ z → to_z w32 (of_z w32 x) ≡ z
 through h e = to_z-of_z {w = w32} (record { sfits = h }) ∙ e
 
--- the node is there to be read
-pub room : {l : Bytes} {C : ℕ} {S : List ℕ} {s n κ : ℕ} {ns : List ℤ} → Evaluating l C S s n κ ns
-    → (C ≡ (header l).conditions) × (8 + 4 * C + 8 * n + 8 ≤ length l)
-room h = (h.ready.conditions_are, omega (arith, h.ready.conditions_are, h.ready.accepted.length_is, h.node_below))
-
 -- a node that is evaluated, as it was read, and its number, which is to fall
 pub record At (l : Bytes) (C : ℕ) (S : List ℕ) (s n of_class : ℕ) (ns : List ℤ) (ν : Node) (t : ℕ) : Type 0 where
-  pub evaluating : Evaluating l C S s n of_class ns
+  pub ready : Ready l C S s
+  pub evaluating : Evaluating l n of_class ns
   pub is_node : ν ≡ node l n
   pub is_number : n ≡ t
 
 module _ {l : Bytes} {C : ℕ} {S : List ℕ} {s n κ : ℕ} {ns : List ℤ} {ν : Node} {t : ℕ} (p : At l C S s n κ ns ν t) where
   abbrev acc : Accepted l
-  acc = p.evaluating.ready.accepted
+  acc = p.ready.accepted
 
   abbrev below : n < (header l).nodes
   below = p.evaluating.node_below
@@ -95,15 +95,27 @@ module _ {l : Bytes} {C : ℕ} {S : List ℕ} {s n κ : ℕ} {ns : List ℤ} {ν
       let range = both _ _ (rw (p.evaluating.is_class ∙ e) at (all_in_class (node l n).kind)) in
       rw p.is_node (ltb-true 15 _ range.0, ltb-true _ 24 range.1)
 
+  -- the kind is known
+  pub known : (κ ≡ 0 → ⊥) → layout ν.kind ≡ 0 → ⊥
+  unfolding class
+  known some_class none = some_class (sym p.evaluating.is_class ∙ ap class_digit (ap (λ ν. layout ν.kind) (sym p.is_node) ∙ none))
+
+  -- what is none of the other kinds of its class is a choice
+  pub left_arithmetic : {k : Kind} → κ ≡ 1 → kind_number k ≡ ν.kind → (k ≡ Number → ⊥) → (k ≡ Variable → ⊥) → (k ≡ Sum → ⊥) → (k ≡ Pick → ⊥) → ν.kind ≡ 4
+  left_arithmetic e is_k n0 n1 n2 n3 = let range = arithmetic_kind e in grind arith
+
+  pub left_boolean : {k : Kind} → κ ≡ 2 → kind_number k ≡ ν.kind → (k ≡ False → ⊥) → (k ≡ True → ⊥) → (k ≡ Not → ⊥) → (k ≡ And → ⊥) → (k ≡ Less → ⊥) → ν.kind ≡ 13
+  left_boolean e is_k n8 n9 n10 n11 n12 = let range = boolean_kind e in grind arith
+
   -- ---- what a call at a child asks for
 
   abbrev pub Call : ℕ → ℕ → Type 0
-  Call x slot = (x < t) × Evaluating l C S s x slot ns
+  Call x slot = (x < t) × Evaluating l x slot ns
 
   call : {x slot : ℕ} → Child l n slot x → Call x slot
   call h = (
     omega (arith, h.is_lower, p.is_number),
-    record { ready = p.evaluating.ready; node_below = omega (arith, h.is_lower, below); is_class = h.is_class; sixteen = p.evaluating.sixteen },
+    record { node_below = omega (arith, h.is_lower, below); is_class = h.is_class; sixteen = p.evaluating.sixteen },
   )
 
   pub in_a : (k : ℕ) → ν.kind ≡ k → names_node (a_digit (layout k)) ≡ true → Child l n (a_digit (layout k)) (node l n).a
@@ -163,7 +175,7 @@ module _ {l : Bytes} {C : ℕ} {S : List ℕ} {s n κ : ℕ} {ns : List ℤ} {ν
 
   -- the condition's set says which side of a choice is taken
   pub chosen : (k : ℕ) → ν.kind ≡ k → is_choice k ≡ true → bit (get_or S (node l n).a 0) s ≡ holds (condition l (node l n).a) s
-  chosen k e choice = chosen_is l C S s (node l n).a p.evaluating.ready (condition_there k e choice)
+  chosen k e choice = chosen_is l C S s (node l n).a p.ready (condition_there k e choice)
 
   pub number_is : ν.kind ≡ 0 → signed32 ν.value ≡ value n
   unfolding value_in

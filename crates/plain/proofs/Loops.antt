@@ -65,11 +65,6 @@ module _ (b s : ℕ) (l : Bytes) (test body : ℕ) where
   charged_on : {p q : Progress} → Began b p q → (ns : Numbers) → goes_on s l test q ns ≡ true → (q.steps ≡ suc p.steps) × (q.steps ≤ b)
   charged_on {p} {q} h ns e = charged h ns (both (eqb q.outcome 1) (truth_in s (read l test).boolean ns) e).0
 
-  -- the loop starts
-  pub starting : {q : Progress} {going : Bool} {ns : Numbers} → Proper q.outcome q.code → q.steps ≤ b → length ns ≡ 16
-      → Turning b s l test body ns q going ns q going
-  starting proper within sixteen = record { same = refl; proper = proper; sixteen = sixteen; within = λ on. within }
-
   module _ {ns₀ ns ns' : Numbers} {q₀ q r q' : Progress} {going₀ going going' : Bool} (on : going ≡ true) (i : Turning b s l test body ns₀ q₀ going₀ ns q going)
       (ran : Ran (does b s l body (state_of q ns)) r ns') (h : Began b r q') (e : going' ≡ goes_on s l test q' ns') where
     -- the loop goes on

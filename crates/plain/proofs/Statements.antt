@@ -2,7 +2,7 @@
 use mathlib.Core.Path.{◌≡◌, refl, sym, ◌∙◌, ap}
 use mathlib.Core.Bool.{Bool, true, false, cond}
 use mathlib.Core.List.{List}
-use Prim.Native.Nat.{ℕ, ◌*◌, ◌≤◌, ◌<◌}
+use Prim.Native.Nat.{ℕ, ◌*◌, ◌<◌}
 use native.Mathlib.Omega.{arith}
 use lib.Dec.{eqb}
 use lib.IntN.{ℤ, pos}
@@ -24,6 +24,9 @@ use Rattle.image.specs.Layout.{kinds, layout, variable_digit, names_node, is_cho
 use Rattle.image.specs.Tree.{condition, read}
 use Rattle.image.proofs.Theorem.Held.{variable_below}
 use Rattle.image.proofs.Theorem.Reading.{skip_at, assign_at, sequence_at, if_at, while_at, throw_at, try_at, choice_at}
+use Rattle.image.specs.declared.kinds.Kind.{Kind}
+use Rattle.image.specs.declared.kinds.Kind.TheVariants.{Skip, Assign, Sequence, If, While, Throw, Choice}
+use Rattle.image.specs.Kinds.{kind_number}
 use Rattle.plain.specs.declared.progress.Progress.{Progress}
 use Rattle.plain.specs.Inner.Evaluating.{Evaluating}
 use Rattle.plain.specs.Inner.Progress.{outcome_from, state_of, Proper}
@@ -72,20 +75,13 @@ takes v p ns {x} h sixteen e = record {
 }
 
 -- the node is evaluated on other numbers
-pub on : {l : Bytes} {C : ℕ} {S : List ℕ} {s n κ : ℕ} {ns ns' : List ℤ} → length ns' ≡ 16 → Evaluating l C S s n κ ns → Evaluating l C S s n κ ns'
-on e h = record { ready = h.ready; node_below = h.node_below; is_class = h.is_class; sixteen = e }
+pub on : {l : Bytes} {n κ : ℕ} {ns ns' : List ℤ} → length ns' ≡ 16 → Evaluating l n κ ns → Evaluating l n κ ns'
+on e h = record { node_below = h.node_below; is_class = h.is_class; sixteen = e }
 
 -- a statement of none of the other kinds is a try
-past : (j k : ℕ) → j ≤ k → (k ≡ j → ⊥) → j < k
-past j k h other = omega (arith, other)
-
-between : (k : ℕ) → k < 24 → (k ≡ 23 → ⊥) → 21 < k → k ≡ 22
-between k h other h' = omega (arith, other)
-
-pub last_kind : {k : ℕ} → (15 < k) × (k < 24) → (k ≡ 16 → ⊥) → (k ≡ 17 → ⊥) → (k ≡ 18 → ⊥) → (k ≡ 19 → ⊥) → (k ≡ 20 → ⊥) → (k ≡ 21 → ⊥) → (k ≡ 23 → ⊥)
-    → k ≡ 22
-last_kind {k} range n16 n17 n18 n19 n20 n21 n23 =
-    between k range.1 n23 (past 21 k (past 20 k (past 19 k (past 18 k (past 17 k (past 16 k range.0 n16) n17) n18) n19) n20) n21)
+pub left_statement : {n : ℕ} {k : Kind} → (15 < n) × (n < 24) → kind_number k ≡ n
+    → (k ≡ Skip → ⊥) → (k ≡ Assign → ⊥) → (k ≡ Sequence → ⊥) → (k ≡ If → ⊥) → (k ≡ While → ⊥) → (k ≡ Throw → ⊥) → (k ≡ Choice → ⊥) → n ≡ 22
+left_statement range is_k n16 n17 n18 n19 n20 n21 n23 = grind arith
 
 -- a number is stored, in numbers
 pub stores : {x z : ℤ} (v : ℕ) (q : Progress) (ns : Numbers) → x ≡ z → state_of q (set ns v x) ≡ store v z (state_of q ns)
@@ -93,8 +89,8 @@ unfolding state_of store
 stores v q ns e = rw e refl
 
 -- the run of a child
-pub child_run : {l : Bytes} {C : ℕ} {S : List ℕ} {s n x t : ℕ} {ns ns' : List ℤ} {q : Progress} → 2 * n ≡ t → (x < n) × Evaluating l C S s x 3 ns
-    → length ns' ≡ 16 → Proper q.outcome q.code → (2 * x < t) × Running l C S s x q ns'
+pub child_run : {l : Bytes} {n x t : ℕ} {ns ns' : List ℤ} {q : Progress} → 2 * n ≡ t → (x < n) × Evaluating l x 3 ns
+    → length ns' ≡ 16 → Proper q.outcome q.code → (2 * x < t) × Running l x q ns'
 child_run e child sixteen proper = (omega (arith, child.0), record { evaluating = on sixteen child.1; proper = proper })
 
 -- a fault is thrown, in numbers
@@ -106,7 +102,7 @@ module _ {l : Bytes} {C : ℕ} {S : List ℕ} {s n : ℕ} {ns : List ℤ} {ν : 
   -- the variable that is stored in is there
   pub stored_below : (k : ℕ) → ν.kind ≡ k → eqb k 0 ≡ false → variable_digit (layout k) ≡ 1 → ν.variable < 16
   stored_below k e other digit =
-      let accepted = p.evaluating.ready.accepted in
+      let accepted = p.ready.accepted in
       let below = p.evaluating.node_below in
       rw p.is_node
       (variable_below l (header l).conditions n (accepted.nodes_fit n below) (accepted.nodes_classed n below) k (is_kind p e) other digit)

@@ -1,19 +1,18 @@
 -- What a run of one setting answers and what it leaves in the numbers: the plain run (document 01, "Plain run", and rows 13, 10 and 12 of the table), and the
 -- run of one hall (document 02, C-18).
-use Rattle.std.specs.Prelude.{◌≡◌, ℕ, not, List, [], ◌∷◌, ◌++◌, eqb, ltb}
+use Rattle.std.specs.Prelude.{◌≡◌, ℕ, not, List, [], ◌∷◌, ◌++◌, eqb, ltb, Result}
 use Rattle.imp.specs.State.{Numbers, State, outcome_number, code}
 use Rattle.imp.specs.Configure.{configure}
 use Rattle.imp.specs.Plain.{plain_run}
+use Rattle.image.specs.declared.refusals.Refusal.{Refusal}
 use Rattle.image.specs.Bytes.{Bytes}
 use Rattle.image.specs.Records.{header, node}
-use Rattle.image.specs.Refusals.{number_of, place_of}
+use Rattle.image.specs.Check.{answer_of}
 use Rattle.image.specs.Layout.{is_choice}
-use Rattle.image.specs.Rows.{Row, row, lowest_row, Answer, refused, answer, judge, written, check_rows}
+use Rattle.image.specs.Rows.{Row, row, lowest_row, judge, written, check_rows}
 use Rattle.image.specs.Sets.{setting_row}
 use Rattle.image.specs.Tree.{routine}
 use Rattle.plain.specs.declared.progress.Progress.{Progress}
-use Rattle.plain.specs.declared.PlainRun.{PlainRun}
-use Rattle.plain.specs.declared.PlainRun.TheVariants.{Ended, Refused}
 
 -- the run's meaning in setting s: that of the routine configured for it
 unfoldable pub meant_in : ℕ → Bytes → ℕ → Numbers → State
@@ -47,15 +46,11 @@ plain_rows l budget space = check_rows l ++ (choice_row l ∷ lent_rows budget s
 unfoldable pub hall_rows : Bytes → ℕ → ℕ → ℕ → List Row
 hall_rows l s budget space = check_rows l ++ (setting_row l s ∷ lent_rows budget space)
 
-abbrev pub plain_answer : PlainRun → Answer Progress
-plain_answer (Ended p) = answer p
-plain_answer (Refused r) = refused (number_of r) (place_of r)
-
 -- what the run in setting s answers and what it leaves, where `rows` are still to be tested
-pub record RunsIn (s : ℕ) (rows : List Row) (l : Bytes) (budget : ℕ) (ns ns' : Numbers) (r : PlainRun) : Type 0 where
-  pub answered : plain_answer r ≡ judge rows (progress_of (meant_in s l budget ns))
+pub record RunsIn (s : ℕ) (rows : List Row) (l : Bytes) (budget : ℕ) (ns ns' : Numbers) (r : Result Progress Refusal) : Type 0 where
+  pub answered : answer_of r ≡ judge rows (progress_of (meant_in s l budget ns))
   pub numbers_are : ns' ≡ written rows (meant_in s l budget ns).numbers ns
 
 -- what the plain run does
-abbrev pub Runs : List Row → Bytes → ℕ → Numbers → Numbers → PlainRun → Type 0
+abbrev pub Runs : List Row → Bytes → ℕ → Numbers → Numbers → Result Progress Refusal → Type 0
 Runs = RunsIn 0

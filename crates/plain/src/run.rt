@@ -7,74 +7,69 @@ ghost use Rattle.plain.specs.Inner.Running.{Running, Repeating, Trying, Ran, tur
 
 use crate::progress::{FAULT, LIVE, Progress};
 use crate::step::{assign, begin, decided, fault, take, tested};
-use image::choice::chosen;
-use image::kinds::{ASSIGN, CHOICE, IF, SEQUENCE, SKIP, THROW, WHILE};
-use image::{Node, node_at};
+use image::Node;
+use image::kinds::Kind;
+use image::setting::Setting;
 
 // "Each beginning counts one step": a choice is not begun, and what is not live after its beginning does nothing.
 #[cycle(attempt_repeat_run)]
 pub fn run(
-    image: &[u8],
-    conditions: usize,
-    sets: &[u64],
-    s: u64,
+    setting: &Setting<'_>,
     n: usize,
     budget: u32,
     p: Progress,
     numbers: &mut [i32],
 ) -> Progress
-    requires { Running image.now conditions sets.now s n p numbers.old }
-    ensures { Ran (running budget (configure s (read image.now n).statement) (state_of p numbers.old)) result
-        numbers.new }
+    requires { Running setting.now.routine.image.now n p numbers.old }
+    ensures { Ran (running budget (configure setting.now.s (read setting.now.routine.image.now n).statement)
+        (state_of p numbers.old)) result numbers.new }
 {
-    let node = node_at(image, conditions, n);
-    let kind = node.kind;
-    if kind == CHOICE {
-        let part = chosen(node, sets, s);
-        return run(image, conditions, sets, s, part, budget, p, numbers);
+    let node = setting.routine.node(n);
+    let kind = node.kind();
+    if kind == Kind::Choice {
+        let part = setting.chosen(node);
+        return run(setting, part, budget, p, numbers);
     }
     let q = begin(budget, p);
     if q.outcome != LIVE {
         return q;
     }
     match kind {
-        SKIP => q,
-        ASSIGN => assign(image, conditions, sets, s, node, q, numbers),
-        SEQUENCE => {
-            let r = run(image, conditions, sets, s, node.a, budget, q, numbers);
-            run(image, conditions, sets, s, node.b, budget, r, numbers)
+        Kind::Skip => q,
+        Kind::Assign => assign(setting, node, q, numbers),
+        Kind::Sequence => {
+            let r = run(setting, node.a, budget, q, numbers);
+            run(setting, node.b, budget, r, numbers)
         }
-        IF => {
-            let part = decided(image, conditions, sets, s, node, numbers);
-            run(image, conditions, sets, s, part, budget, q, numbers)
+        Kind::If => {
+            let part = decided(setting, node, numbers);
+            run(setting, part, budget, q, numbers)
         }
-        WHILE => repeat(image, conditions, sets, s, node, budget, q, numbers),
-        THROW => fault(image, conditions, sets, s, node, q, numbers),
-        _ => attempt(image, conditions, sets, s, node, budget, q, numbers),
+        Kind::While => repeat(setting, node, budget, q, numbers),
+        Kind::Throw => fault(setting, node, q, numbers),
+        _ => attempt(setting, node, budget, q, numbers),
     }
 }
 
 // A while that is begun: it is begun anew before each later test.
 #[cycle(attempt_repeat_run)]
 fn repeat(
-    image: &[u8],
-    conditions: usize,
-    sets: &[u64],
-    s: u64,
+    setting: &Setting<'_>,
     node: Node,
     budget: u32,
     p: Progress,
     numbers: &mut [i32],
 ) -> Progress
-    requires { Repeating image.now conditions sets.now s node.a node.b budget p numbers.old }
-    ensures { Ran (turning budget s image.now node.a node.b (state_of p numbers.old)) result numbers.new }
+    requires { Repeating setting.now.routine.image.now node.a node.b budget p numbers.old }
+    ensures { Ran (turning budget setting.now.s setting.now.routine.image.now node.a node.b (state_of p numbers.old))
+        result numbers.new }
 {
     let mut q = p;
-    let mut going = tested(image, conditions, sets, s, node.a, q, numbers);
+    let mut going = tested(setting, node.a, q, numbers);
     while going {
-        let r = run(image, conditions, sets, s, node.b, budget, q, numbers);
+        let r = run(setting, node.b, budget, q, numbers);
         q = begin(budget, r);
-        going = tested(image, conditions, sets, s, node.a, q, numbers);
+        going = tested(setting, node.a, q, numbers);
     }
     q
 }
@@ -82,23 +77,20 @@ fn repeat(
 // A try that is begun: where its body ends in fault, the code is stored, the fault cleared and the handler run.
 #[cycle(attempt_repeat_run)]
 fn attempt(
-    image: &[u8],
-    conditions: usize,
-    sets: &[u64],
-    s: u64,
+    setting: &Setting<'_>,
     node: Node,
     budget: u32,
     p: Progress,
     numbers: &mut [i32],
 ) -> Progress
-    requires { Trying image.now conditions sets.now s node.a node.variable node.b p numbers.old }
-    ensures { Ran (trying budget s image.now node.a node.variable node.b (state_of p numbers.old)) result
-        numbers.new }
+    requires { Trying setting.now.routine.image.now node.a node.variable node.b p numbers.old }
+    ensures { Ran (trying budget setting.now.s setting.now.routine.image.now node.a node.variable node.b
+        (state_of p numbers.old)) result numbers.new }
 {
-    let r = run(image, conditions, sets, s, node.a, budget, p, numbers);
+    let r = run(setting, node.a, budget, p, numbers);
     if r.outcome != FAULT {
         return r;
     }
     let q = take(node, r, numbers);
-    run(image, conditions, sets, s, node.b, budget, q, numbers)
+    run(setting, node.b, budget, q, numbers)
 }

@@ -1,11 +1,8 @@
 -- What is read of a stream, and what is told of it. That `read` hands out the bytes of a stream in order is all that is assumed.
-use Rattle.std.specs.Prelude.{◌≡◌, ℕ, ◌≤◌, length, take}
+use Rattle.std.specs.Prelude.{◌≡◌, ℕ, length, take}
 use Rattle.image.specs.Bytes.{Bytes}
-use Rattle.image.specs.Refusals.{number_of, place_of}
-use Rattle.image.specs.Rows.{Answer, refused, answer}
+use Rattle.image.specs.Rows.{Answer}
 use Rattle.written.specs.Told.{Told}
-use Rattle.reading.specs.declared.write.ReadText.{ReadText}
-use Rattle.reading.specs.declared.write.ReadText.TheVariants.{Length, Refused}
 
 -- the longest image: 8 bytes, 256 conditions and 1,024 nodes
 abbrev pub longest : ℕ
@@ -14,12 +11,3 @@ longest = 9224
 -- whatever stream the n bytes of `text` were read from, until its end, this is the answer to it
 pub record Tells (text : Bytes) (n : ℕ) (told : Answer Bytes) : Type 0 where
   pub of_stream : (stream : Bytes) → take n text ≡ take (length text) stream → Told stream longest told
-
--- the image at the start of a space, or the refusal
-abbrev pub as_told : ReadText → Bytes → Answer Bytes
-as_told (Length end) space = answer (take end space)
-as_told (Refused r) space = refused (number_of r) (place_of r)
-
-abbrev pub Inside : ReadText → Bytes → Type 0
-Inside (Length end) space = end ≤ length space
-Inside (Refused r) space = Unit {0}

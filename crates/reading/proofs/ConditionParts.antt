@@ -6,7 +6,11 @@ use mathlib.Core.List.{List, ◌∷◌, ◌++◌}
 use native.Mathlib.Omega.{arith}
 use lib.ListN.{length, take}
 use borrow.Author.Tests.{ne_eqb}
-use Rattle.imp.specs.Condition.{Condition, trueᶜ, notᶜ}
+use Rattle.imp.specs.Condition.{Condition, notᶜ}
+use Rattle.image.specs.declared.kinds.ConditionKind.{ConditionKind}
+use Rattle.image.specs.Kinds.{condition_kind_number}
+use Rattle.std.specs.Prelude.{Ok, Err}
+use Rattle.image.specs.declared.refusals.Refusal.{Refusal}
 use Rattle.image.specs.Bytes.{Bytes}
 use Rattle.image.specs.Term.{condition_word}
 use Rattle.written.specs.Word.{RIGHT}
@@ -16,12 +20,11 @@ use Rattle.written.specs.Count.{sizeᶜ}
 use Rattle.written.specs.Image.{wordsᶜ}
 use Rattle.reading.specs.declared.cursor.Cursor.{Cursor}
 use Rattle.reading.specs.declared.lead.Lead.{Lead}
-use Rattle.reading.specs.Inner.Way.{Live, Good, Way}
+use Rattle.reading.specs.Inner.Way.{Good, Way}
 use Rattle.reading.specs.Inner.Storing.{Storable, Stores}
 use Rattle.reading.specs.Inner.Conditions.{ConditionReady, ReadsCondition}
 use Rattle.reading.specs.Inner.ConditionLead.{leaf, rest_of, ConditionFrom}
-use Rattle.reading.proofs.Ways.{then}
-use Rattle.reading.proofs.Leading.{retarget}
+use Rattle.reading.proofs.Ways.{then, then_refused}
 use Rattle.reading.proofs.ConditionLeads.{any}
 use Rattle.reading.proofs.ConditionStores.{reads_all}
 
@@ -35,101 +38,98 @@ rest_leaf F kind value h m n =
 rest_not : (F kind value : ℕ) (h : Condition → Stack) → kind ≡ 3 → rest_of F kind value h ≡ want F conditions λ x. h (notᶜ x)
 rest_not F kind value h e = ap (λ k. rest_of F k value h) e
 
-module _ (text : Bytes) (F : ℕ) (c : Cursor) (T : List ℕ) (o : Lead) (ready : ConditionReady text F c T) (C : ConditionFrom text F c o) where
-  -- refused at its first token
-  pub refused_first : (o.cursor.refused ≡ 0 → ⊥) → ReadsCondition text F c o.cursor T T
-  refused_first n = record {
-    condition = trueᶜ;
-    way = λ h. retarget text c o.cursor (want F conditions h) (rest_of F o.kind o.value h) (h trueᶜ) (C.way h) (λ l. absurd (n l));
-    wrote = λ l. absurd (n l);
-    same_space = refl;
+module _ (text : Bytes) (F : ℕ) (c : Cursor) (T : List ℕ) (o : Lead ConditionKind) (ready : ConditionReady text F c T) (C : ConditionFrom text F c (Ok o)) where
+  good : Good text o.cursor
+  good = (C.way any).good
+
+  pub few : c.condition ≤ c.records
+  few = ready.written_few
+
+  -- a place is left for its own record
+  own_room : (d : Cursor) (n : ℕ) → Good text d → d.records ≡ o.cursor.records + n → d.condition ≡ o.cursor.condition + n → d.condition < RECORDS
+  own_room d n g e k = omega (arith, g.few_records, e, k, C.opened.records_opened, C.opened.kept.condition_kept, few)
+
+  -- ---- one record
+
+  pub leaf_storable : Storable o.cursor (condition_kind_number o.kind) o.value 0 0 T
+  leaf_storable = record {
+    space = ready.space;
+    room = own_room o.cursor 0 good (omega arith) (omega arith);
+    fields = record { kind_small = omega (arith, C.kind_small); option_small = omega (arith, C.small); left_small = omega arith; right_small = omega arith };
   }
 
-  module _ (l : Live o.cursor) where
-    good : Good text o.cursor
-    good = (C.way any).good
+  pub leaf_reads : {r : Cursor} {T' : List ℕ} → (condition_kind_number o.kind ≡ 3 → ⊥) → (condition_kind_number o.kind ≡ 4 → ⊥)
+      → Stores o.cursor (condition_kind_number o.kind) o.value 0 0 T T' r → ReadsCondition text F c (Ok r) T T'
+  leaf_reads m n S =
+      let k : Condition = leaf (condition_kind_number o.kind) o.value in
+      let one = C.is_leaf m n in
+      reads_all S text F c k T
+      (λ h. subst (Way text c o.cursor (want F conditions h)) (rest_leaf F (condition_kind_number o.kind) o.value h m n) (C.way h))
+      (record {
+        nodes_kept = omega (arith, C.opened.nodes_opened);
+        node_kept = C.opened.kept.node_kept;
+        records_opened = omega (arith, C.opened.records_opened, one.size_is);
+        condition_is = omega (arith, C.opened.kept.condition_kept, one.size_is);
+        room = omega (arith, leaf_storable.room, ready.space);
+        words_are = λ r. ap (λ w. take c.condition T ++ w) (one.words_are c.condition r)
+            ∙ ap (λ n. take n T ++ (condition_word (condition_kind_number o.kind) o.value 0 0 ∷ r)) (sym C.opened.kept.condition_kept);
+      }) refl
 
-    pub few : c.condition ≤ c.records
-    few = ready.written_few ((C.way any).was_live l)
+  -- ---- an operand
 
-    -- a place is left for its own record
-    own_room : (d : Cursor) (n : ℕ) → Good text d → d.records ≡ o.cursor.records + n → d.condition ≡ o.cursor.condition + n → d.condition < RECORDS
-    own_room d n g e k = omega (arith, g.few_records, e, k, C.opened.records_opened l, C.opened.kept.condition_kept, few)
+  pub first_ready : ConditionReady text F o.cursor T
+  first_ready = record { good = good; options_few = ready.options_few; space = ready.space; written_few = omega (arith, few, C.opened.records_opened, C.opened.kept.condition_kept) }
 
-    -- ---- one record
+  pub first_less : length text - o.cursor.at < length text - c.at
+  first_less = omega (arith, C.further, good.inside)
 
-    pub leaf_storable : Storable o.cursor o.kind o.value 0 0 T
-    leaf_storable = record {
-      space = ready.space;
-      room = λ i. own_room o.cursor 0 good (omega arith) (omega arith);
-      fields = λ i. record { kind_small = omega (arith, C.kind_small); option_small = omega (arith, C.small); left_small = omega arith; right_small = omega arith };
-    }
+  -- it is refused
+  pub not_refused : {T₁ : List ℕ} (e : Refusal) → condition_kind_number o.kind ≡ 3 → ReadsCondition text F o.cursor (Err e) T T₁ → ReadsCondition text F c (Err e) T T₁
+  not_refused e q A = record {
+    read = λ h. then_refused e (subst (Way text c o.cursor (want F conditions h)) (rest_not F (condition_kind_number o.kind) o.value h q) (C.way h)) (A.read (λ x. h (notᶜ x)));
+    same_space = A.same_space;
+  }
 
-    pub leaf_reads : {r : Cursor} {T' : List ℕ} → (o.kind ≡ 3 → ⊥) → (o.kind ≡ 4 → ⊥) → Stores o.cursor o.kind o.value 0 0 T T' r → ReadsCondition text F c r T T'
-    leaf_reads m n S =
-        let k : Condition = leaf o.kind o.value in
-        let one = C.is_leaf l m n in
-        reads_all S text F c k T
-        (λ h. subst (Way text c o.cursor (want F conditions h)) (rest_leaf F o.kind o.value h m n) (C.way h))
-        (λ i. record {
-          nodes_kept = omega (arith, C.opened.nodes_opened l);
-          node_kept = C.opened.kept.node_kept;
-          records_opened = omega (arith, C.opened.records_opened l, one.size_is);
-          condition_is = omega (arith, C.opened.kept.condition_kept, one.size_is);
-          room = omega (arith, leaf_storable.room l, ready.space);
-          words_are = λ r. ap (λ w. take c.condition T ++ w) (one.words_are c.condition r) ∙ ap (λ n. take n T ++ (condition_word o.kind o.value 0 0 ∷ r)) (sym C.opened.kept.condition_kept);
-        }) refl
+  module _ {a : Cursor} {T₁ : List ℕ} (A : ReadsCondition text F o.cursor (Ok a) T T₁) where
+    abbrev x : Condition
+    x = A.read.condition
 
-    -- ---- an operand
+    first_good : Good text a
+    first_good = (A.read.way any).good
 
-    pub first_ready : ConditionReady text F o.cursor T
-    first_ready = record { good = good; options_few = ready.options_few; space = ready.space; written_few = λ i. omega (arith, few, C.opened.records_opened l, C.opened.kept.condition_kept) }
+    pub space₁ : length T₁ ≡ RECORDS
+    space₁ = A.same_space ∙ ready.space
 
-    pub first_less : length text - o.cursor.at < length text - c.at
-    first_less = omega (arith, C.further l, good.inside)
+    pub first_at : a.condition ≡ c.condition + sizeᶜ x
+    first_at = omega (arith, A.read.wrote.condition_is, C.opened.kept.condition_kept)
 
-    module _ {a : Cursor} {T₁ : List ℕ} (A : ReadsCondition text F o.cursor a T T₁) where
-      abbrev x : Condition
-      x = A.condition
+    -- the records of the first operand, behind those before it
+    pub first_are : (r : List ℕ) → take c.condition T ++ wordsᶜ x c.condition r ≡ take a.condition T₁ ++ r
+    first_are r = subst (λ n. take n T ++ wordsᶜ x n r ≡ take a.condition T₁ ++ r) C.opened.kept.condition_kept (A.read.wrote.records_are r)
 
-      first_good : Good text a
-      first_good = (A.way any).good
+    module _ {left : ℕ} (left_is : left ≡ a.condition - 1) where
+      pub not_storable : Storable a 3 0 left 0 T₁
+      not_storable = record {
+        space = space₁;
+        room = room;
+        fields = record { kind_small = omega arith; option_small = omega arith; left_small = omega (arith, room, left_is); right_small = omega arith };
+      }
+        where
+          room : a.condition < RECORDS
+          room = own_room a (sizeᶜ x) first_good A.read.wrote.records_opened A.read.wrote.condition_is
 
-      pub space₁ : length T₁ ≡ RECORDS
-      space₁ = A.same_space ∙ ready.space
-
-      pub first_at : Live a → a.condition ≡ c.condition + sizeᶜ x
-      first_at i = omega (arith, (A.wrote i).condition_is, C.opened.kept.condition_kept)
-
-      -- the records of the first operand, behind those before it
-      pub first_are : (i : Live a) (r : List ℕ) → take c.condition T ++ wordsᶜ x c.condition r ≡ take a.condition T₁ ++ r
-      first_are i r = subst (λ n. take n T ++ wordsᶜ x n r ≡ take a.condition T₁ ++ r) C.opened.kept.condition_kept ((A.wrote i).records_are r)
-
-      module _ {left : ℕ} (left_is : left ≡ a.condition - 1) where
-        pub not_storable : Storable a o.kind 0 left 0 T₁
-        not_storable = record {
-          space = space₁;
-          room = room;
-          fields = λ i. record { kind_small = omega (arith, C.kind_small); option_small = omega arith; left_small = omega (arith, room i, left_is); right_small = omega arith };
-        }
-          where
-            room : Live a → a.condition < RECORDS
-            room i = own_room a (sizeᶜ x) first_good (A.wrote i).records_opened (A.wrote i).condition_is
-
-        pub not_reads : {r : Cursor} {T' : List ℕ} → o.kind ≡ 3 → Stores a o.kind 0 left 0 T₁ T' r → ReadsCondition text F c r T T'
-        unfolding sizeᶜ wordsᶜ
-        not_reads e S =
-            reads_all S text F c (notᶜ x) T
-            (λ h. then text (subst (Way text c o.cursor (want F conditions h)) (rest_not F o.kind o.value h e) (C.way h)) (A.way (λ x. h (notᶜ x))))
-            (λ i.
-            let at = first_at i in
-            let left_at : c.condition + sizeᶜ x - 1 ≡ left = omega (arith, at, left_is) in
-            record {
-              nodes_kept = omega (arith, (A.wrote i).nodes_kept, C.opened.nodes_opened l);
-              node_kept = (A.wrote i).node_kept ∙ C.opened.kept.node_kept;
-              records_opened = omega (arith, (A.wrote i).records_opened, C.opened.records_opened l);
-              condition_is = omega (arith, at);
-              room = omega (arith, not_storable.room i, space₁);
-              words_are = λ r. first_are i (condition_word 3 0 (c.condition + sizeᶜ x - 1) 0 ∷ r)
-                  ∙ ap₂ (λ k n. take a.condition T₁ ++ (condition_word k 0 n 0 ∷ r)) (sym e) left_at;
-            }) A.same_space
+      pub not_reads : {r : Cursor} {T' : List ℕ} → condition_kind_number o.kind ≡ 3 → Stores a 3 0 left 0 T₁ T' r → ReadsCondition text F c (Ok r) T T'
+      unfolding sizeᶜ wordsᶜ
+      not_reads e S =
+          reads_all S text F c (notᶜ x) T
+          (λ h. then (subst (Way text c o.cursor (want F conditions h)) (rest_not F (condition_kind_number o.kind) o.value h e) (C.way h)) (A.read.way (λ x. h (notᶜ x))))
+          (let at = first_at in
+          let left_at : c.condition + sizeᶜ x - 1 ≡ left = omega (arith, at, left_is) in
+          record {
+            nodes_kept = omega (arith, A.read.wrote.nodes_kept, C.opened.nodes_opened);
+            node_kept = A.read.wrote.node_kept ∙ C.opened.kept.node_kept;
+            records_opened = omega (arith, A.read.wrote.records_opened, C.opened.records_opened);
+            condition_is = omega (arith, at);
+            room = omega (arith, not_storable.room, space₁);
+            words_are = λ r. first_are (condition_word 3 0 (c.condition + sizeᶜ x - 1) 0 ∷ r) ∙ ap (λ n. take a.condition T₁ ++ (condition_word 3 0 n 0 ∷ r)) left_at;
+          }) A.same_space

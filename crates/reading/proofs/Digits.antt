@@ -10,6 +10,7 @@ use lib.Dec.{T, leb, ltb, eqb, leb→le, eqb→eq}
 use lib.ListN.{length, drop, get_or, drop_of_length-le, length-drop}
 use lib.Seq.{drop-cons}
 use Rattle.image.specs.Bytes.{Bytes}
+use Rattle.image.proofs.Theorem.Lower.{both}
 use Rattle.written.specs.Byte.{is_space, is_digit, is_run}
 use Rattle.written.specs.Token.{Opens, Spot}
 use Rattle.written.specs.Machine.{Stack, Log, Begun, behind, plain, first, digits, when, between_by, between, digits_by, first_fits, first_step, low, step, final}
@@ -31,14 +32,6 @@ begun_at w o now = record { log = w; does = o; now = now }
 no_more : (d u : Bool) → (d && u) ≡ false → d ≡ true → u ≡ false
 no_more true u e f = e
 no_more false u e f = absurd (true≢false (sym f))
-
-both_left : (u v : Bool) → (u && v) ≡ true → u ≡ true
-both_left true v e = refl
-both_left false v e = absurd (true≢false (sym e))
-
-both_right : (u v : Bool) → (u && v) ≡ true → v ≡ true
-both_right true v e = e
-both_right false v e = absurd (true≢false (sym e))
 
 either : (u v : Bool) → (u || v) ≡ true → (u ≡ true) ⊎ (v ≡ true)
 either true v e = inl refl
@@ -83,13 +76,13 @@ module _ (text : Bytes) (w : Log) (o : Opens) (hi : ℕ) (f : ℕ → Stack) whe
   one_more n at j v h e r =
       let b : ℕ = get_or text at 0 in
       let u : Bool = ltb 0 n && leb (n * 10 + (b - 48)) hi in
-      let e₁ : u ≡ true = both_right (is_digit b) u e in
+      let e₁ : u ≡ true = (both (is_digit b) u e).1 in
       record {
         inside = omega (arith, r.inside);
-        small = λ k. r.small (leb→le (n * 10 + (b - 48)) hi (subst T (sym (both_right (ltb 0 n) (leb (n * 10 + (b - 48)) hi) e₁)) tt));
+        small = λ k. r.small (leb→le (n * 10 + (b - 48)) hi (subst T (sym ((both (ltb 0 n) (leb (n * 10 + (b - 48)) hi) e₁).1)) tt));
         on =
             steps text (digits (begun_at w o at) n hi f) (digits (begun_at w o (suc at)) (n * 10 + (b - 48)) hi f) at h
-            (ap (λ u. digits_by (begun_at w o at) u n hi f b) (both_left (is_digit b) u e) ∙ ap (λ u. when u (digits (begun_at w o (suc at)) (n * 10 + (b - 48)) hi f)) e₁)
+            (ap (λ u. digits_by (begun_at w o at) u n hi f b) ((both (is_digit b) u e).0) ∙ ap (λ u. when u (digits (begun_at w o (suc at)) (n * 10 + (b - 48)) hi f)) e₁)
             ∙ r.on
             ∙ moved v (suc at + j) (at + suc j) (omega arith);
         stops = λ k. ap (λ i. goes_on hi v (get_or text i 0)) (omega arith) ∙ r.stops (omega (arith, k));

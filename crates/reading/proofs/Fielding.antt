@@ -7,105 +7,106 @@ use native.Mathlib.Omega.{arith}
 use lib.Dec.{ltb}
 use lib.ListN.{take}
 use borrow.Author.Tests.{ltb-true}
+use Rattle.std.specs.Prelude.{Result, Ok, Err}
+use Rattle.image.specs.declared.refusals.Refusal.{Refusal}
 use Rattle.image.specs.Bytes.{Bytes}
 use Rattle.image.specs.Layout.{names_node}
-use Rattle.written.specs.Token.{nothing}
+use mathlib.Core.Option.{Option}
+use Rattle.written.specs.Token.{Lexeme, nothing}
 use Rattle.written.specs.Machine.{Stack, done}
 use Rattle.reading.specs.declared.cursor.Cursor.{Cursor}
 use Rattle.reading.specs.declared.number.Number.{Number}
-use Rattle.reading.specs.Inner.Way.{Live, Way, Opened}
+use Rattle.reading.specs.Inner.Way.{Way, Opened}
 use Rattle.reading.specs.Inner.Parts.{Slot, empty, of_condition, a_condition, no_part, slot_of}
 use Rattle.reading.specs.Inner.Marks.{Marks}
-use Rattle.reading.specs.Inner.Conditions.{ConditionReady, ReadsCondition}
+use Rattle.reading.specs.Inner.Conditions.{ReadsCondition}
 use Rattle.reading.specs.Inner.Node.{PartReady, ReadsPart, BehindA}
 use Rattle.reading.proofs.Tokens.{nothing_read}
+use Rattle.reading.proofs.Ways.{stays}
 
--- there is a place for the node that has been opened
-abbrev pub Open : Cursor → Type 0
-Open c = Live c → c.node < c.nodes
-
--- what a step that opens nothing and writes nothing leaves
+-- what a step that opens nothing and writes nothing leaves; there is still a place for a node that has been opened
 pub record Next (text : Bytes) (F : ℕ) (c c' : Cursor) (nodes records : List ℕ) : Type 0 where
   pub ready : PartReady text F c' nodes records
-  pub stays_open : Open c → Open c'
+  pub stays_open : c.node < c.nodes → c'.node < c'.nodes
   pub forth : c.at ≤ c'.at
 
-next : (text : Bytes) (F : ℕ) (c c' : Cursor) (nodes records : List ℕ) {A B : Stack} → PartReady text F c nodes records → Way text c c' A B → Opened c c' nothing → Next text F c c' nodes records
-next text F c c' nodes records R w o = record {
+next : {text : Bytes} {F : ℕ} {c c' : Cursor} {nodes records : List ℕ} {A B : Stack} → PartReady text F c nodes records → Way text c c' A B → Opened c c' nothing → Next text F c c' nodes records
+next R w o = record {
   ready = record {
     good = w.good;
     options_few = R.options_few;
     node_space = R.node_space;
     record_space = R.record_space;
-    nodes_few = λ l. omega (arith, o.kept.node_kept, o.nodes_opened l, R.nodes_few (w.was_live l));
-    conditions_few = λ l. omega (arith, o.kept.condition_kept, o.records_opened l, R.conditions_few (w.was_live l));
+    nodes_few = omega (arith, o.kept.node_kept, o.nodes_opened, R.nodes_few);
+    conditions_few = omega (arith, o.kept.condition_kept, o.records_opened, R.conditions_few);
   };
-  stays_open = λ h l. omega (arith, o.kept.node_kept, o.nodes_opened l, h (w.was_live l));
+  stays_open = λ h. omega (arith, o.kept.node_kept, o.nodes_opened, h);
   forth = w.forth;
 }
 
-pub behind_mark : (text : Bytes) (F : ℕ) (c c' : Cursor) (nodes records : List ℕ) (digit : ℕ) → PartReady text F c nodes records → Marks text c digit c' → Next text F c c' nodes records
-behind_mark text F c c' nodes records digit R m = next text F c c' nodes records R (m.way (done nothing_read)) m.opened
+pub behind_mark : {text : Bytes} {F : ℕ} {c c' : Cursor} {nodes records : List ℕ} {o : Option Lexeme} → PartReady text F c nodes records → Marks text c o (Ok c') → Next text F c c' nodes records
+behind_mark R m = next R (m.way (done nothing_read)) m.opened
 
-pub behind_first : (text : Bytes) (F : ℕ) (c : Cursor) (v : Number) (nodes records : List ℕ) (kind digit value : ℕ) → PartReady text F c nodes records → BehindA text c kind digit value v
+pub behind_first : {text : Bytes} {F : ℕ} {c : Cursor} {v : Number} {nodes records : List ℕ} {kind value : ℕ} {o : Option Lexeme} → PartReady text F c nodes records → BehindA text c kind o value (Ok v)
     → Next text F c v.cursor nodes records
-behind_first text F c v nodes records kind digit value R b = next text F c v.cursor nodes records R (b.way 0 (λ i. done nothing_read)) b.opened
+behind_first R b = next R (b.way 0 (λ i. done nothing_read)) b.opened
 
 -- what a part leaves
-pub behind_part : (text : Bytes) (F : ℕ) (slot : Slot) (c c' : Cursor) (nodes nodes' records records' : List ℕ) → PartReady text F c nodes records
-    → ReadsPart text F slot c c' nodes nodes' records records' → Next text F c c' nodes' records'
-behind_part text F slot c c' nodes nodes' records records' R p =
-    let w = p.way (λ i. done nothing_read) in
+pub behind_part : {text : Bytes} {F : ℕ} {slot : Slot} {c c' : Cursor} {nodes nodes' records records' : List ℕ} → PartReady text F c nodes records
+    → ReadsPart text F slot c (Ok c') nodes nodes' records records' → Next text F c c' nodes' records'
+behind_part R p =
+    let w = p.read.way (λ i. done nothing_read) in
     record {
       ready = record {
         good = w.good;
         options_few = R.options_few;
         node_space = p.same_nodes ∙ R.node_space;
         record_space = p.same_records ∙ R.record_space;
-        nodes_few = λ l. omega (arith, (p.wrote l).node_is, (p.wrote l).nodes_opened, R.nodes_few (w.was_live l));
-        conditions_few = λ l. omega (arith, (p.wrote l).condition_is, (p.wrote l).records_opened, R.conditions_few (w.was_live l));
+        nodes_few = omega (arith, p.read.wrote.node_is, p.read.wrote.nodes_opened, R.nodes_few);
+        conditions_few = omega (arith, p.read.wrote.condition_is, p.read.wrote.records_opened, R.conditions_few);
       };
-      stays_open = λ h l. omega (arith, (p.wrote l).node_is, (p.wrote l).nodes_opened, h (w.was_live l));
+      stays_open = λ h. omega (arith, p.read.wrote.node_is, p.read.wrote.nodes_opened, h);
       forth = w.forth;
     }
 
 -- ---- a field
 
 -- none
-pub no_field : (text : Bytes) (F : ℕ) (c : Cursor) (nodes records : List ℕ) → PartReady text F c nodes records → ReadsPart text F empty c c nodes nodes records records
+pub no_field : (text : Bytes) (F : ℕ) (c : Cursor) (nodes records : List ℕ) → PartReady text F c nodes records → ReadsPart text F empty c (Ok c) nodes nodes records records
 no_field text F c nodes records R = record {
-  part = no_part;
-  way = λ g. record { forth = omega arith; good = R.good; was_live = λ l. l; goes = λ w h. (w, h, refl) };
-  wrote = λ l. record { nodes_opened = omega arith; records_opened = omega arith; node_is = omega arith; condition_is = omega arith; nodes_are = λ r. refl; records_are = λ r. refl };
+  read = record {
+    part = no_part;
+    way = λ g. stays (g no_part) R.good;
+    wrote = record { nodes_opened = omega arith; records_opened = omega arith; node_is = omega arith; condition_is = omega arith; nodes_are = λ r. refl; records_are = λ r. refl };
+  };
   same_nodes = refl;
   same_records = refl;
 }
 
--- a condition
-pub condition_ready : (text : Bytes) (F : ℕ) (c : Cursor) (nodes records : List ℕ) → PartReady text F c nodes records → ConditionReady text F c records
-condition_ready text F c nodes records R = record { good = R.good; options_few = R.options_few; space = R.record_space; written_few = R.conditions_few }
-
-pub condition_field : (text : Bytes) (F : ℕ) (c c' : Cursor) (nodes records records' : List ℕ) → PartReady text F c nodes records → ReadsCondition text F c c' records records'
-    → ReadsPart text F of_condition c c' nodes nodes records records'
-condition_field text F c c' nodes records records' R p = record {
-  part = a_condition p.condition;
-  way = λ g. p.way (λ k. g (a_condition k));
-  wrote = λ l. record {
-    nodes_opened = omega (arith, (p.wrote l).nodes_kept);
-    records_opened = (p.wrote l).records_opened;
-    node_is = omega (arith, (p.wrote l).node_kept);
-    condition_is = (p.wrote l).condition_is;
-    nodes_are = λ r. ap (λ n. take n nodes ++ r) (sym (p.wrote l).node_kept);
-    records_are = (p.wrote l).records_are;
+pub condition_field : (text : Bytes) (F : ℕ) (c : Cursor) (r : Result Cursor Refusal) (nodes records records' : List ℕ) → ReadsCondition text F c r records records'
+    → ReadsPart text F of_condition c r nodes nodes records records'
+condition_field text F c (Ok c') nodes records records' p = record {
+  read = record {
+    part = a_condition p.read.condition;
+    way = λ g. p.read.way (λ k. g (a_condition k));
+    wrote = record {
+      nodes_opened = omega (arith, p.read.wrote.nodes_kept);
+      records_opened = p.read.wrote.records_opened;
+      node_is = omega (arith, p.read.wrote.node_kept);
+      condition_is = p.read.wrote.condition_is;
+      nodes_are = λ r. ap (λ n. take n nodes ++ r) (sym p.read.wrote.node_kept);
+      records_are = p.read.wrote.records_are;
+    };
   };
   same_nodes = refl;
   same_records = p.same_space;
 }
+condition_field text F c (Err e) nodes records records' p = record { read = λ g. p.read (λ k. g (a_condition k)); same_nodes = refl; same_records = p.same_space }
 
 -- the slot of a digit
-pub of_slot : (text : Bytes) (F : ℕ) (s s' : Slot) (c c' : Cursor) (nodes nodes' records records' : List ℕ) → s ≡ s' → ReadsPart text F s c c' nodes nodes' records records'
-    → ReadsPart text F s' c c' nodes nodes' records records'
-of_slot text F s s' c c' nodes nodes' records records' e p = subst (λ s. ReadsPart text F s c c' nodes nodes' records records') e p
+pub of_slot : (text : Bytes) (F : ℕ) (s s' : Slot) (c : Cursor) (r : Result Cursor Refusal) (nodes nodes' records records' : List ℕ) → s ≡ s' → ReadsPart text F s c r nodes nodes' records records'
+    → ReadsPart text F s' c r nodes nodes' records records'
+of_slot text F s s' c r nodes nodes' records records' e p = subst (λ s. ReadsPart text F s c r nodes nodes' records records') e p
 
 pub condition_slot : (n : ℕ) → n ≡ 4 → of_condition ≡ slot_of n
 unfolding slot_of

@@ -18,12 +18,12 @@ use Rattle.written.specs.Machine.{statements, arithmetics, variables, Stack, mar
 use Rattle.written.specs.Limits.{NODES, RECORDS, first_too_many, whole_in}
 use Rattle.written.specs.Answer.{so_far, refused_17, from}
 use Rattle.reading.specs.declared.cursor.Cursor.{Cursor}
-use Rattle.reading.specs.Inner.Way.{nodes_in, records_in, Live, Logged, Good}
+use Rattle.reading.specs.Inner.Way.{nodes_in, records_in, Logged, Good}
 use Rattle.reading.specs.Inner.Between.{Faces}
 use Rattle.reading.proofs.Counts.{within_limits, it_or_none, none_limits, not_yet}
 use Rattle.reading.proofs.Tokens.{at_end_or_byte, stuck, steps, enters}
 
-module _ (text : Bytes) (c : Cursor) (l : Live c) (g : Good text c) (faces : Faces text c) (F : ℕ) (f : Statement Condition → Stack) (e : get_or text c.at 0 ≡ 116) where
+module _ (text : Bytes) (c : Cursor) (g : Good text c) (faces : Faces text c) (F : ℕ) (f : Statement Condition → Stack) (e : get_or text c.at 0 ≡ 116) where
   abbrev second : ℕ
   second = get_or text (suc c.at) 0
 
@@ -40,12 +40,12 @@ module _ (text : Bytes) (c : Cursor) (l : Live c) (g : Good text c) (faces : Fac
   at_fork : (w : Log) → from text (drop c.at text) (plain w [] c.tight wanted) c.at ≡ from text (drop (suc c.at) text) (fork w F f) (suc c.at)
   unfolding look leads
   at_fork w =
-      steps text (plain w [] c.tight wanted) (fork w F f) c.at (faces.before_end l)
-      (enters text w c.tight wanted (get_or text c.at 0) (faces.no_space l) (faces.apart l) ∙ ap (begin w wanted) e)
+      steps text (plain w [] c.tight wanted) (fork w F f) c.at (faces.before_end)
+      (enters text w c.tight wanted (get_or text c.at 0) (faces.no_space) (faces.apart) ∙ ap (begin w wanted) e)
 
   -- a byte that is not 0 stands in the text
   second_inside : (b : ℕ) → (b ≡ 0 → ⊥) → second ≡ b → suc c.at < length text
-  second_inside b n h = by (at_end_or_byte text (suc c.at) (omega (arith, faces.before_end l)))
+  second_inside b n h = by (at_end_or_byte text (suc c.at) (omega (arith, faces.before_end)))
     where
       by : (length text ≤ suc c.at) ⊎ (suc c.at < length text) → suc c.at < length text
       by (inl i) = absurd (n (sym h ∙ get_or-eq_default text 0 i))
@@ -77,7 +77,7 @@ module _ (text : Bytes) (c : Cursor) (l : Live c) (g : Good text c) (faces : Fac
         let rare : records_in w.spots ≤ RECORDS = omega (arith, k.records_are, g.few_records) in
         let m : Spot = record { does = node; is_word = true; from = w.at; upto = w.at + 3 } in
         stuck text (fork w F f) at (record {
-          inside = omega (arith, faces.before_end l);
+          inside = omega (arith, faces.before_end);
           no_step = λ i. ap₂ (λ u v. found u (plain (noted w node true (w.at + 5)) (114 ∷ 111 ∷ 119 ∷ []) true (want F arithmetics λ a. f (throw a)))
               (found v (plain (noted w node true (w.at + 3)) (121 ∷ []) true (want F statements λ x. mark CATCH (want F variables λ v. mark WITH (want F statements λ y. f (try x v y))))) none))
               (ne_eqb second 104 other) n;
@@ -85,7 +85,7 @@ module _ (text : Bytes) (c : Cursor) (l : Live c) (g : Good text c) (faces : Fac
           no_limit = none_limits text (at + 0) (refused_17 at) (first_too_many (reverse w.spots)) (within_limits w.spots few rare);
         })
         ∙ sym (stuck text (tried_state w) at (record {
-          inside = omega (arith, faces.before_end l);
+          inside = omega (arith, faces.before_end);
           no_step = λ i. ap (λ u. when u (plain (noted w node true (w.at + 3)) (121 ∷ []) true tried)) n;
           no_end = λ i. refl;
           no_limit = not_yet text (at + 0) (refused_17 at) m (first_too_many (reverse (m ∷ w.spots))) (it_or_none w.spots few rare m)

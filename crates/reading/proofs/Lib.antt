@@ -1,4 +1,5 @@
 -- What the proofs of several functions use.
+pub mod Naming
 pub mod Counts
 pub mod Tokens
 pub mod Digits
@@ -9,7 +10,6 @@ pub mod Spelled
 pub mod Loops
 pub mod Returns
 pub mod NumberReturns
-pub mod LeadReturns
 pub mod Leading
 pub mod Forking
 pub mod Classes

@@ -9,7 +9,11 @@ use lib.Dec.{T, eqb, leb}
 use lib.ListN.{length, drop, get_or, drop_of_length-le, get_or-eq_default}
 use lib.Seq.{drop-cons}
 use borrow.Author.Tests.{leb-true, le-leb}
+use Rattle.std.specs.Prelude.{Result, Ok, Err}
+use Rattle.image.specs.declared.refusals.Refusal.{Refusal}
+use Rattle.image.specs.declared.refusals.Refusal.TheVariants.{TextWrong, TooMany}
 use Rattle.image.specs.Bytes.{Bytes}
+use Rattle.image.proofs.Theorem.Lower.{both}
 use Rattle.written.specs.Byte.{is_run}
 use Rattle.written.specs.Token.{Opens, Spot}
 use Rattle.written.specs.Machine.{Stack, Log, noted, plain, between_by, between, step, final}
@@ -18,12 +22,11 @@ use Rattle.written.specs.Answer.{so_far, refused_17, refused_18, from}
 use Rattle.written.proofs.Theorem.From.{from_over}
 use Rattle.written.proofs.Theorem.Now.{Now}
 use Rattle.reading.specs.declared.cursor.Cursor.{Cursor}
-use Rattle.reading.specs.Inner.Way.{node_of, record_in, nodes_in, records_in, Live, Logged, Good, Way, Opened}
-use Rattle.reading.specs.Inner.Token.{refused_at, counted_to}
+use Rattle.reading.specs.Inner.Way.{node_of, record_in, nodes_in, records_in, Logged, Good, Way, Refuses, Opened}
+use Rattle.reading.specs.Inner.Token.{counted_to}
 use Rattle.reading.proofs.Counts.{it_or_none, breaks, not_yet}
 use Rattle.reading.proofs.Tokens.{at_end_or_byte, stuck}
 use Rattle.reading.proofs.Digits.{space_no_run}
-use Rattle.reading.proofs.Ways.{to_place, to_17, to_18}
 
 -- what stands at a place, as a byte and as a rest
 pub runs_at : (text : Bytes) (at : ℕ) → at ≤ length text → runs_on (drop at text) ≡ is_run (get_or text at 0)
@@ -43,14 +46,6 @@ run_inside text at h r = by (at_end_or_byte text at h)
 
 -- ---- truth tables
 
-both : (u v : Bool) → (u && v) ≡ true → (u ≡ true) × (v ≡ true)
-both true v e = (refl, e)
-both false v e = absurd (true≢false (sym e))
-
-not_both : (u v : Bool) → (u && v) ≡ false → u ≡ true → v ≡ false
-not_both true v e f = e
-not_both false v e f = absurd (true≢false (sym f))
-
 off : (u : Bool) → u ≡ false → T (not u)
 off u e = subst (λ v. T (not v)) (sym e) tt
 
@@ -58,9 +53,21 @@ off_and : (u v : Bool) → v ≡ true → (u && not v) ≡ false
 off_and true v e = ap not e
 off_and false v e = refl
 
+-- ---- what a token leads to
+
+-- a way, and what the token opens
+pub record OneToken (text : Bytes) (c : Cursor) (A S : Stack) (o : Opens) (c' : Cursor) : Type 0 where
+  pub way : Way text c c' A S
+  pub opened : Opened c c' o
+  pub further : c.at < c'.at
+
+abbrev pub Leads : Bytes → Cursor → Stack → Stack → Opens → Result Cursor Refusal → Type 0
+Leads text c A S o (Ok c') = OneToken text c A S o c'
+Leads text c A S o (Err e) = Refuses text c A e
+
 -- ---- the end of a token
 
-module _ (text : Bytes) (c : Cursor) (l : Live c) (g : Good text c) (end : ℕ) (tight : Bool) (o : Opens) (A S : Stack)
+module _ (text : Bytes) (c : Cursor) (g : Good text c) (end : ℕ) (tight : Bool) (o : Opens) (A S : Stack)
     (forth : c.at < end) (inside : end ≤ length text)
     (read : (w : Log) → Logged c w → from text (drop c.at text) (plain w [] c.tight A) c.at ≡ from text (drop end text) (plain (noted w o tight end) [] tight S) end) where
   few : (w : Log) → Logged c w → (nodes_in w.spots ≤ NODES) × (records_in w.spots ≤ RECORDS)
@@ -101,37 +108,27 @@ module _ (text : Bytes) (c : Cursor) (l : Live c) (g : Good text c) (end : ℕ) 
       broken true v e f h = true≢false (sym h ∙ e)
       broken false v e f h = true≢false (sym f)
 
-  pub record Counts (c' : Cursor) : Type 0 where
-    pub way : Way text c c' A S
-    pub opened : Opened c c' o
-    pub further : Live c' → end ≤ c'.at
-
-  refuses : (refusal p : ℕ) → (refusal ≡ 0 → ⊥) → Way text c (refused_at c refusal p) A S → Counts (refused_at c refusal p)
-  refuses refusal p n way = record { way = way; opened = record { kept = record { node_kept = refl; condition_kept = refl }; nodes_opened = λ i. absurd (n i); records_opened = λ i. absurd (n i) }; further = λ i. absurd (n i) }
-
-  pub counts : Counts (counted_to text c end tight o)
+  pub counts : Leads text c A S o (counted_to text c end tight o)
   unfolding counted_to nodes_in records_in
   counts = by (leb (c.nodes + node_of o) NODES && leb (c.records + record_in o) RECORDS) refl
     where
       first_over : (u : Bool) → (tight && is_run (get_or text end 0)) ≡ u → (leb (c.nodes + node_of o) NODES && leb (c.records + record_in o) RECORDS) ≡ false
-          → Counts (cond u (refused_at c 17 end) (refused_at c 18 c.at))
-      first_over true e f =
-          refuses 17 end (λ i. omega (arith, i))
-          (to_17 text c (refused_at c 17 end) A l (omega arith) (record { inside = inside; few_nodes = g.few_nodes; few_records = g.few_records }) S refl (λ w k. read w k ∙ goes_on w k e))
-      first_over false e f =
-          refuses 18 c.at (λ i. omega (arith, i))
-          (to_18 text c (refused_at c 18 c.at) A l (omega arith) (record { inside = g.inside; few_nodes = g.few_nodes; few_records = g.few_records }) S refl (λ w k. read w k ∙ is_over w k e f))
+          → Leads text c A S o (cond u (Err (TextWrong end)) (Err (TooMany c.at)))
+      first_over true e f = λ w k. read w k ∙ goes_on w k e
+      first_over false e f = λ w k. read w k ∙ is_over w k e f
 
       by : (u : Bool) → (leb (c.nodes + node_of o) NODES && leb (c.records + record_in o) RECORDS) ≡ u
-          → Counts (cond u (record { at = end; tight = tight; nodes = c.nodes + node_of o; records = c.records + record_in o; node = c.node; condition = c.condition; refused = c.refused })
-          (cond (tight && is_run (get_or text end 0)) (refused_at c 17 end) (refused_at c 18 c.at)))
+          → Leads text c A S o (cond u (Ok (record { at = end; tight = tight; nodes = c.nodes + node_of o; records = c.records + record_in o; node = c.node; condition = c.condition }))
+          (cond (tight && is_run (get_or text end 0)) (Err (TextWrong end)) (Err (TooMany c.at))))
       by true e =
           let b = both (leb (c.nodes + node_of o) NODES) (leb (c.records + record_in o) RECORDS) e in
           record {
-            way = to_place text c (record { at = end; tight = tight; nodes = c.nodes + node_of o; records = c.records + record_in o; node = c.node; condition = c.condition; refused = c.refused }) A l (omega arith)
-                (record { inside = inside; few_nodes = leb-true (c.nodes + node_of o) NODES b.0; few_records = leb-true (c.records + record_in o) RECORDS b.1 }) S l
-                (λ w k. (noted w o tight end, record { at_is = refl; nodes_are = omega (arith, k.nodes_are); records_are = omega (arith, k.records_are) }, read w k));
-            opened = record { kept = record { node_kept = refl; condition_kept = refl }; nodes_opened = λ i. refl; records_opened = λ i. refl };
-            further = λ i. omega arith;
+            way = record {
+              forth = omega arith;
+              good = record { inside = inside; few_nodes = leb-true (c.nodes + node_of o) NODES b.0; few_records = leb-true (c.records + record_in o) RECORDS b.1 };
+              goes = λ w k. (noted w o tight end, record { at_is = refl; nodes_are = omega (arith, k.nodes_are); records_are = omega (arith, k.records_are) }, read w k);
+            };
+            opened = record { kept = record { node_kept = refl; condition_kept = refl }; nodes_opened = refl; records_opened = refl };
+            further = omega arith;
           }
       by false e = first_over (tight && is_run (get_or text end 0)) refl e

@@ -107,7 +107,6 @@ module _ (text : Bytes) where
         }
 
     pub reads_word : (x : Bytes) (at : ℕ) → at ≤ length text → WordRead x w g s at (agree x (drop at text))
-    unfolding agree
     reads_word [] at h = record {
       inside = omega arith;
       most = omega arith;
@@ -124,7 +123,10 @@ module _ (text : Bytes) where
         by : (length text ≤ at) ⊎ (at < length text) → (suc at ≤ length text → WordRead x w g s (suc at) (agree x (drop (suc at) text)))
             → WordRead (c ∷ x) w g s at (agree (c ∷ x) (drop at text))
         by (inl e) r = subst (λ l. WordRead (c ∷ x) w g s at (agree (c ∷ x) l)) (sym (drop_of_length-le text e)) (unfit c x at h (λ i. absurd (omega arith)))
-        by (inr e) r = subst (λ l. WordRead (c ∷ x) w g s at (agree (c ∷ x) l)) (sym (drop-cons text at 0 e)) (on (eqb (get_or text at 0) c) refl e r)
+        by (inr e) r =
+            let one : suc (agree x (drop (suc at) text)) ≡ 1 + agree x (drop (suc at) text) = omega arith in
+            subst (λ l. WordRead (c ∷ x) w g s at (agree (c ∷ x) l)) (sym (drop-cons text at 0 e))
+            (subst (λ n. WordRead (c ∷ x) w g s at (cond (eqb (get_or text at 0) c) n 0)) one (on (eqb (get_or text at 0) c) refl e r))
 
 -- what a text agrees with stands in it
 pub agree_inside : (text x : Bytes) (at : ℕ) → at ≤ length text → at + agree x (drop at text) ≤ length text

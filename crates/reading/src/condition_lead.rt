@@ -1,95 +1,70 @@
 // The token that a condition begins with, and the word between two conditions.
-ghost use Rattle.std.specs.Prelude.{◌≡◌, suc, ◌≤◌, length};
-ghost use Rattle.written.specs.Token.{record_of};
+ghost use Rattle.std.specs.Prelude.{suc, ◌≤◌, length};
 ghost use Rattle.reading.specs.Inner.Way.{Good};
-ghost use Rattle.reading.specs.Inner.Token.{word_to};
-ghost use Rattle.reading.specs.Inner.ConditionLead.{OptionLead, ConditionFrom, JoinFrom};
+ghost use Rattle.reading.specs.Inner.ConditionLead.{RecordLead, OptionLead, ConditionFrom, JoinFrom};
 
 use super::bytes::byte_at;
 use super::cursor::Cursor;
-use super::lead::{Lead, by_none};
+use super::lead::{Lead, led, numbered};
 use super::number::read_number;
 use super::spaces::to_token;
-use super::token::{NOTHING, RECORD, word};
-use image::kinds::{
-    AND_CONDITION, FALSE_CONDITION, NOT_CONDITION, OPTION, OR_CONDITION, TRUE_CONDITION,
-};
+use super::token::{Opens, word};
+use image::kinds::ConditionKind;
+use image::refusals::Refusal;
 
 // A word or mark that opens a record of a kind.
-fn by_record(text: &[u8], c: Cursor, x: &[u8], kind: u32) -> Lead
+fn by_record(
+    text: &[u8],
+    c: Cursor,
+    x: &[u8],
+    kind: ConditionKind,
+) -> Result<Lead<ConditionKind>, Refusal>
     requires { Good text.now c }
-    ensures { result ≡ record { cursor = word_to text.now c x.now record_of; kind = kind; value = 0 } }
+    ensures { RecordLead text.now c x.now kind result }
 {
-    Lead {
-        cursor: word(text, c, x, RECORD),
-        kind: kind,
-        value: 0,
-    }
+    Ok(led(word(text, c, x, Opens::Record)?, kind))
 }
 
 // "options o0 and up, below F"
-fn by_option(text: &[u8], options: u64, c: Cursor) -> Lead
+fn by_option(text: &[u8], options: u64, c: Cursor) -> Result<Lead<ConditionKind>, Refusal>
     requires { Good text.now c × (suc c.at ≤ length text.now) × (options ≤ 6) }
     ensures { OptionLead text.now options c result }
 {
     if options == 0 {
-        return by_none(c, OPTION);
+        return Err(Refusal::TextWrong(c.at));
     }
-    let n = read_number(text, c, c.at + 1, false, options - 1, RECORD);
-    let d = n.cursor;
-    Lead {
-        cursor: d,
-        kind: OPTION,
-        value: n.value,
-    }
+    let n = read_number(text, c, c.at + 1, false, options - 1, Opens::Record)?;
+    Ok(numbered(n, ConditionKind::Option))
 }
 
 // A bracket is told to be an and; the word between its conditions decides.
-pub fn condition_lead(text: &[u8], options: u64, from: Cursor) -> Lead
+pub fn condition_lead(
+    text: &[u8],
+    options: u64,
+    from: Cursor,
+) -> Result<Lead<ConditionKind>, Refusal>
     requires { Good text.now from × (options ≤ 6) }
     ensures { ConditionFrom text.now options from result }
 {
-    let c = to_token(text, from);
-    if c.refused != 0 {
-        return Lead {
-            cursor: c,
-            kind: FALSE_CONDITION,
-            value: 0,
-        };
-    }
+    let c = to_token(text, from)?;
     match byte_at(text, c.at) {
-        b't' => by_record(text, c, b"true", TRUE_CONDITION),
-        b'f' => by_record(text, c, b"false", FALSE_CONDITION),
-        b'n' => by_record(text, c, b"not", NOT_CONDITION),
-        b'(' => by_record(text, c, b"(", AND_CONDITION),
+        b't' => by_record(text, c, b"true", ConditionKind::True),
+        b'f' => by_record(text, c, b"false", ConditionKind::False),
+        b'n' => by_record(text, c, b"not", ConditionKind::Not),
+        b'(' => by_record(text, c, b"(", ConditionKind::And),
         b'o' => by_option(text, options, c),
-        _ => by_none(c, FALSE_CONDITION),
+        _ => Err(Refusal::TextWrong(c.at)),
     }
 }
 
 // Either word; where neither begins, it is refused as an `and` that does not.
-pub fn join(text: &[u8], from: Cursor) -> Lead
+pub fn join(text: &[u8], from: Cursor) -> Result<Lead<ConditionKind>, Refusal>
     requires { Good text.now from }
     ensures { JoinFrom text.now from result }
 {
-    let c = to_token(text, from);
-    if c.refused != 0 {
-        return Lead {
-            cursor: c,
-            kind: AND_CONDITION,
-            value: 0,
-        };
-    }
+    let c = to_token(text, from)?;
     if byte_at(text, c.at) == b'o' {
-        return Lead {
-            cursor: word(text, c, b"or", NOTHING),
-            kind: OR_CONDITION,
-            value: 0,
-        };
+        return Ok(led(word(text, c, b"or", Opens::Nothing)?, ConditionKind::Or));
     }
-    Lead {
-        cursor: word(text, c, b"and", NOTHING),
-        kind: AND_CONDITION,
-        value: 0,
-    }
+    Ok(led(word(text, c, b"and", Opens::Nothing)?, ConditionKind::And))
 }

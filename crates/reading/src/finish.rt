@@ -1,11 +1,12 @@
 // A node's own word, once its parts are written: "a node follows all of its subtree".
 ghost use Rattle.std.specs.Prelude.{◌≡◌, cond, ◌^◌, ◌<◌, eqb};
+ghost use Rattle.image.specs.Kinds.{kind_number};
 ghost use Rattle.image.specs.Layout.{layout, variable_digit};
 ghost use Rattle.reading.specs.Inner.Parts.{slot_of};
 ghost use Rattle.reading.specs.Inner.Node.{name_of, own_word, OwnFields, Finishing, Finishes};
 
 use super::cursor::{Cursor, before};
-use image::kinds::{CONDITION, NUMBER, OF_A, OF_B, OF_VARIABLE, layout, names_node};
+use image::kinds::{CONDITION, Kind, OF_A, OF_B, OF_VARIABLE, layout, names_node};
 use image::words::node_word;
 
 // The name of the child that a field holds, where the cursor stands behind it.
@@ -23,10 +24,10 @@ fn name(slot: u32, c: Cursor) -> usize
 }
 
 // Only some kinds have a variable.
-fn variable_of(kind: u32, value: u64) -> usize
-    ensures { result ≡ cond (eqb (variable_digit (layout kind)) 1) value 0 }
+fn variable_of(kind: Kind, value: u64) -> usize
+    ensures { result ≡ cond (eqb (variable_digit (layout (kind_number kind))) 1) value 0 }
 {
-    if layout(kind) / OF_VARIABLE % 8 == 1 {
+    if layout(u32::from(kind)) / OF_VARIABLE % 8 == 1 {
         value as usize
     } else {
         0
@@ -34,31 +35,31 @@ fn variable_of(kind: u32, value: u64) -> usize
 }
 
 // Only a number has a value.
-fn number_of(kind: u32, value: u64) -> u32
+fn number_of(kind: Kind, value: u64) -> u32
     requires { value < 2 ^ 32 }
-    ensures { result ≡ cond (eqb kind 0) value 0 }
+    ensures { result ≡ cond (eqb (kind_number kind) 0) value 0 }
 {
-    if kind == NUMBER { value as u32 } else { 0 }
+    match kind {
+        Kind::Number => value as u32,
+        _ => 0,
+    }
 }
 
-fn own_word(kind: u32, value: u64, a: usize, b: usize, c: usize) -> u64
-    requires { OwnFields kind value a b c }
-    ensures { result ≡ own_word kind value a b c }
+fn own_word(kind: Kind, value: u64, a: usize, b: usize, c: usize) -> u64
+    requires { OwnFields (kind_number kind) value a b c }
+    ensures { result ≡ own_word (kind_number kind) value a b c }
 {
     let variable = variable_of(kind, value);
-    let number = number_of(kind, value);
-    node_word(kind, variable, number, a, b, c)
+    let value = number_of(kind, value);
+    node_word(u32::from(kind), variable, value, a, b, c)
 }
 
 // The node behind its parts; a and b stand behind the first two of them, c behind all.
-pub fn finish(kind: u32, value: u64, a: Cursor, b: Cursor, c: Cursor, nodes: &mut [u64]) -> Cursor
-    requires { Finishing kind value a b c nodes.old }
-    ensures { Finishes kind value a b c nodes.old nodes.new result }
+pub fn finish(kind: Kind, value: u64, a: Cursor, b: Cursor, c: Cursor, nodes: &mut [u64]) -> Cursor
+    requires { Finishing (kind_number kind) value a b c nodes.old }
+    ensures { Finishes (kind_number kind) value a b c nodes.old nodes.new result }
 {
-    if c.refused != 0 {
-        return c;
-    }
-    let digits = layout(kind);
+    let digits = layout(u32::from(kind));
     let in_a = name(digits / OF_A % 8, a);
     let in_b = name(digits / OF_B % 8, b);
     let in_c = name(digits % 8, c);

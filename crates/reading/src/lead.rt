@@ -1,175 +1,155 @@
 // The token that a part begins with: it tells the node's kind, and opens it.
-ghost use Rattle.std.specs.Prelude.{◌≡◌, suc, ◌≤◌, length, true, false};
+ghost use Rattle.std.specs.Prelude.{◌≡◌, suc, ◌≤◌, ◌<◌, length, true, false};
+ghost use Rattle.image.specs.Kinds.{kind_number};
 ghost use Rattle.reading.specs.Inner.Way.{Good};
-ghost use Rattle.reading.specs.Inner.Token.{refused_at};
 ghost use Rattle.reading.specs.Inner.Lead.{WordLead, VariableLead, NumberLead, ForkLead, LeadFrom};
+ghost use Rattle.reading.specs.Inner.Between.{Met};
 
 use super::bytes::{byte_at, is_digit};
-use super::cursor::{Cursor, TEXT_WRONG};
-use super::number::{HIGHEST, LAST_VARIABLE, read_number};
+use super::cursor::Cursor;
+use super::number::{HIGHEST, LAST_VARIABLE, Number, read_number};
 use super::spaces::to_token;
-use super::token::{NODE, word};
-use image::kinds::{
-    AND, ASSIGN, CHOICE, CHOICE_OF_ARITHMETIC, CHOICE_OF_BOOLEANS, FALSE, IF, LESS, NOT, NUMBER,
-    PICK, SEQUENCE, SKIP, SUM, THROW, TRUE, TRY, VARIABLE, WHILE,
-};
+use super::token::{Opens, word};
+use image::kinds::{BOOLEAN, Kind, STATEMENT};
+use image::refusals::Refusal;
 
-// Where the token leads to; the node's kind, and a number's 32 bits or a variable.
+// Where the token leads to; the kind that it tells, and a number's 32 bits, a variable or an option.
 #[derive(Clone, Copy)]
-pub struct Lead {
+pub struct Lead<K> {
     pub cursor: Cursor,
-    pub kind: u32,
+    pub kind: K,
     pub value: u64,
 }
 
-// A word or mark that opens a node of a kind.
-fn by_word(text: &[u8], c: Cursor, x: &[u8], kind: u32) -> Lead
-    requires { Good text.now c }
-    ensures { WordLead text.now c x.now kind result }
+// A token that tells its kind alone.
+pub fn led<K>(cursor: Cursor, kind: K) -> Lead<K>
+    ensures { result ≡ record { cursor = cursor; kind = kind; value = 0 } }
 {
     Lead {
-        cursor: word(text, c, x, NODE),
-        kind: kind,
+        cursor,
+        kind,
         value: 0,
     }
+}
+
+// A number that tells a kind.
+pub fn numbered<K>(n: Number, kind: K) -> Lead<K>
+    ensures { result ≡ record { cursor = n.cursor; kind = kind; value = n.value } }
+{
+    Lead {
+        cursor: n.cursor,
+        kind,
+        value: n.value,
+    }
+}
+
+// A word or mark that opens a node of a kind.
+fn by_word(text: &[u8], c: Cursor, x: &[u8], kind: Kind) -> Result<Lead<Kind>, Refusal>
+    requires { Good text.now c }
+    ensures { WordLead text.now c x.now (kind_number kind) result }
+{
+    Ok(led(word(text, c, x, Opens::Node)?, kind))
 }
 
 // "Variables are v0 to v15"
-fn by_variable(text: &[u8], c: Cursor, kind: u32) -> Lead
+fn by_variable(text: &[u8], c: Cursor, kind: Kind) -> Result<Lead<Kind>, Refusal>
     requires { Good text.now c × (suc c.at ≤ length text.now) }
-    ensures { VariableLead text.now c kind result }
+    ensures { VariableLead text.now c (kind_number kind) result }
 {
-    let n = read_number(text, c, c.at + 1, false, LAST_VARIABLE, NODE);
-    let d = n.cursor;
-    Lead {
-        cursor: d,
-        kind: kind,
-        value: n.value,
-    }
+    let n = read_number(text, c, c.at + 1, false, LAST_VARIABLE, Opens::Node)?;
+    Ok(numbered(n, kind))
 }
 
 // "numbers are signed decimals in 32 bits"
-fn by_number(text: &[u8], c: Cursor) -> Lead
+fn by_number(text: &[u8], c: Cursor) -> Result<Lead<Kind>, Refusal>
     requires { Good text.now c }
     ensures { NumberLead text.now c c.at false result }
 {
-    let n = read_number(text, c, c.at, false, HIGHEST, NODE);
-    let d = n.cursor;
-    Lead {
-        cursor: d,
-        kind: NUMBER,
-        value: n.value,
-    }
+    let n = read_number(text, c, c.at, false, HIGHEST, Opens::Node)?;
+    Ok(numbered(n, Kind::Number))
 }
 
 // Behind a minus: -n has the 32 bits 2^32 - n.
-fn by_minus(text: &[u8], c: Cursor) -> Lead
+fn by_minus(text: &[u8], c: Cursor) -> Result<Lead<Kind>, Refusal>
     requires { Good text.now c × (suc c.at ≤ length text.now) }
     ensures { NumberLead text.now c (suc c.at) true result }
 {
-    let n = read_number(text, c, c.at + 1, true, HIGHEST, NODE);
-    let d = n.cursor;
-    Lead {
-        cursor: d,
-        kind: NUMBER,
+    let n = read_number(text, c, c.at + 1, true, HIGHEST, Opens::Node)?;
+    Ok(Lead {
         value: 4294967296 - n.value,
-    }
-}
-
-// No part begins so.
-pub fn by_none(c: Cursor, kind: u32) -> Lead
-    ensures { result ≡ record { cursor = refused_at c 17 c.at; kind = kind; value = 0 } }
-{
-    Lead {
-        cursor: Cursor {
-            refused: TEXT_WRONG,
-            ..c
-        },
-        kind: kind,
-        value: 0,
-    }
+        ..numbered(n, Kind::Number)
+    })
 }
 
 // throw and try part at their second byte.
-fn by_t(text: &[u8], c: Cursor) -> Lead
+fn by_t(text: &[u8], c: Cursor) -> Result<Lead<Kind>, Refusal>
     requires { Good text.now c × (suc c.at ≤ length text.now) }
     ensures { ForkLead text.now c result }
 {
     if byte_at(text, c.at + 1) == b'h' {
-        return by_word(text, c, b"throw", THROW);
+        return by_word(text, c, b"throw", Kind::Throw);
     }
-    by_word(text, c, b"try", TRY)
+    by_word(text, c, b"try", Kind::Try)
 }
 
-pub fn statement_lead(text: &[u8], from: Cursor) -> Lead
-    requires { Good text.now from }
-    ensures { LeadFrom text.now 3 from result }
+fn statement_lead(text: &[u8], c: Cursor) -> Result<Lead<Kind>, Refusal>
+    requires { Met text.now c }
+    ensures { LeadFrom text.now 3 c result }
 {
-    let c = to_token(text, from);
-    if c.refused != 0 {
-        return Lead {
-            cursor: c,
-            kind: SKIP,
-            value: 0,
-        };
-    }
     match byte_at(text, c.at) {
-        b's' => by_word(text, c, b"skip", SKIP),
-        b'v' => by_variable(text, c, ASSIGN),
-        b'{' => by_word(text, c, b"{", SEQUENCE),
-        b'i' => by_word(text, c, b"if", IF),
-        b'w' => by_word(text, c, b"while", WHILE),
+        b's' => by_word(text, c, b"skip", Kind::Skip),
+        b'v' => by_variable(text, c, Kind::Assign),
+        b'{' => by_word(text, c, b"{", Kind::Sequence),
+        b'i' => by_word(text, c, b"if", Kind::If),
+        b'w' => by_word(text, c, b"while", Kind::While),
         b't' => by_t(text, c),
-        b'[' => by_word(text, c, b"[", CHOICE),
-        _ => by_none(c, SKIP),
+        b'[' => by_word(text, c, b"[", Kind::Choice),
+        _ => Err(Refusal::TextWrong(c.at)),
     }
 }
 
-pub fn boolean_lead(text: &[u8], from: Cursor) -> Lead
-    requires { Good text.now from }
-    ensures { LeadFrom text.now 2 from result }
+fn boolean_lead(text: &[u8], c: Cursor) -> Result<Lead<Kind>, Refusal>
+    requires { Met text.now c }
+    ensures { LeadFrom text.now 2 c result }
 {
-    let c = to_token(text, from);
-    if c.refused != 0 {
-        return Lead {
-            cursor: c,
-            kind: FALSE,
-            value: 0,
-        };
-    }
     match byte_at(text, c.at) {
-        b't' => by_word(text, c, b"true", TRUE),
-        b'f' => by_word(text, c, b"false", FALSE),
-        b'n' => by_word(text, c, b"not", NOT),
-        b'b' => by_word(text, c, b"both", AND),
-        b'(' => by_word(text, c, b"(", LESS),
-        b'[' => by_word(text, c, b"[", CHOICE_OF_BOOLEANS),
-        _ => by_none(c, FALSE),
+        b't' => by_word(text, c, b"true", Kind::True),
+        b'f' => by_word(text, c, b"false", Kind::False),
+        b'n' => by_word(text, c, b"not", Kind::Not),
+        b'b' => by_word(text, c, b"both", Kind::And),
+        b'(' => by_word(text, c, b"(", Kind::Less),
+        b'[' => by_word(text, c, b"[", Kind::ChoiceOfBooleans),
+        _ => Err(Refusal::TextWrong(c.at)),
     }
 }
 
-pub fn arithmetic_lead(text: &[u8], from: Cursor) -> Lead
-    requires { Good text.now from }
-    ensures { LeadFrom text.now 1 from result }
+fn arithmetic_lead(text: &[u8], c: Cursor) -> Result<Lead<Kind>, Refusal>
+    requires { Met text.now c }
+    ensures { LeadFrom text.now 1 c result }
 {
-    let c = to_token(text, from);
-    if c.refused != 0 {
-        return Lead {
-            cursor: c,
-            kind: NUMBER,
-            value: 0,
-        };
-    }
     let b = byte_at(text, c.at);
     if is_digit(b) {
         return by_number(text, c);
     }
     match b {
         b'-' => by_minus(text, c),
-        b'v' => by_variable(text, c, VARIABLE),
-        b'(' => by_word(text, c, b"(", SUM),
-        b'p' => by_word(text, c, b"pick", PICK),
-        b'[' => by_word(text, c, b"[", CHOICE_OF_ARITHMETIC),
-        _ => by_none(c, NUMBER),
+        b'v' => by_variable(text, c, Kind::Variable),
+        b'(' => by_word(text, c, b"(", Kind::Sum),
+        b'p' => by_word(text, c, b"pick", Kind::Pick),
+        b'[' => by_word(text, c, b"[", Kind::ChoiceOfArithmetic),
+        _ => Err(Refusal::TextWrong(c.at)),
+    }
+}
+
+// How a part of a class begins.
+pub fn part_lead(text: &[u8], class: u32, from: Cursor) -> Result<Lead<Kind>, Refusal>
+    requires { Good text.now from × (0 < class) × (class ≤ 3) }
+    ensures { LeadFrom text.now class from result }
+{
+    let c = to_token(text, from)?;
+    match class {
+        STATEMENT => statement_lead(text, c),
+        BOOLEAN => boolean_lead(text, c),
+        _ => arithmetic_lead(text, c),
     }
 }

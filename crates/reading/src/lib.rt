@@ -18,26 +18,18 @@ mod token; // token.rt: words, marks and numbers
 mod whole; // whole.rt: the whole text
 mod write; // write.rt: the image
 
-use cursor::TEXT_WRONG;
 use image::refusals::Refusal;
 use token::{NODES, RECORDS};
 use whole::whole;
-pub use write::ReadText;
 use write::write_image;
 
 // What the grammar says of a text, and its image where there is space: 17 or 18, "the earlier byte decides", and "14 last".
-pub fn read(text: &[u8], out: &mut [u8]) -> ReadText
+pub fn read(text: &[u8], out: &mut [u8]) -> Result<usize, Refusal>
     ensures { ReadsText text.now out.old out.new result }
 {
     let mut nodes = [0u64; NODES];
     let mut records = [0u32; RECORDS];
-    let r = whole(text, &mut nodes, &mut records);
+    let r = whole(text, &mut nodes, &mut records)?;
     let c = r.cursor;
-    if c.refused == TEXT_WRONG {
-        return ReadText::Refused(Refusal::TextWrong(c.at));
-    }
-    if c.refused != 0 {
-        return ReadText::Refused(Refusal::TooMany(c.at));
-    }
     write_image(r.value, c.condition, c.node, &records, &nodes, out)
 }

@@ -1,76 +1,82 @@
 // The words and marks between the parts of a node.
 ghost use Rattle.std.specs.Prelude.{◌≡◌};
+ghost use Rattle.image.specs.Kinds.{kind_number};
 ghost use Rattle.reading.specs.Inner.Way.{Good};
 ghost use Rattle.reading.specs.Inner.Token.{fixed_to};
-ghost use Rattle.reading.specs.Inner.Parts.{marks_of};
+ghost use Rattle.std.proofs.Math.Option.{Option};
+ghost use Rattle.written.specs.Token.{Lexeme};
+ghost use Rattle.reading.specs.Inner.Parts.{text_of, MarksAre, MarksOf};
 ghost use Rattle.reading.specs.Inner.Marks.{Marks};
 
 use super::cursor::Cursor;
 use super::spaces::to_token;
-use super::token::{NOTHING, word};
+use super::token::{Opens, word};
+use image::kinds::Kind;
+use image::refusals::Refusal;
 
-// What stands before a, behind a, behind b and behind c, a hexadecimal digit each: specs/Inner/Parts.antt has the words by their digits.
-const MARKS: [u32; 24] = [
-    0x0000, // 0 number
-    0x0000, // 1 variable
-    0x0320, // 2 sum: ( a + b )
-    0x1672, // 3 pick: pick ( a ? b : c )
-    0x0678, // 4 choice of arithmetic: [ a ? b : c ]
-    0x0000, 0x0000, 0x0000, 0x0000, // 8 false
-    0x0000, // 9 true
-    0x0000, // 10 not: not a
-    0x1520, // 11 and: both ( a and b )
-    0x0420, // 12 less: ( a < b )
-    0x0678, // 13 choice of booleans: [ a ? b : c ]
-    0x0000, 0x0000, 0x0000, // 16 skip
-    0x9000, // 17 assign: v := a
-    0x0AB0, // 18 sequence: { a ; b }
-    0x0CD0, // 19 if: if a then b else c
-    0x0E00, // 20 while: while a do b
-    0x0000, // 21 throw: throw a
-    0x0000, // 22 try: try a catch v with b
-    0x0678, // 23 choice of statements: [ a ? b : c ]
-];
+// What stands before a node's a, and behind its a, b and c: nothing where it is empty.
+#[derive(Clone, Copy)]
+pub struct NodeMarks {
+    pub before_a: &'static [u8],
+    pub behind_a: &'static [u8],
+    pub behind_b: &'static [u8],
+    pub behind_c: &'static [u8],
+}
 
-pub fn marks(kind: u32) -> u32
-    ensures { result ≡ marks_of kind }
+fn around(
+    before_a: &'static [u8],
+    behind_a: &'static [u8],
+    behind_b: &'static [u8],
+    behind_c: &'static [u8],
+) -> NodeMarks
+    ensures { MarksAre before_a.now behind_a.now behind_b.now behind_c.now result.before_a.now
+        result.behind_a.now result.behind_b.now result.behind_c.now }
 {
-    let at = kind as usize;
-    if at < 24 { MARKS[at] } else { 0 }
+    NodeMarks {
+        before_a,
+        behind_a,
+        behind_b,
+        behind_c,
+    }
+}
+
+#[tactic(auto, unfolding(crate::specs::Inner::Parts::marks_of, crate::specs::Inner::Parts::mark_table))]
+pub fn marks(kind: Kind) -> NodeMarks
+    ensures { MarksOf (kind_number kind) result.before_a.now result.behind_a.now
+        result.behind_b.now result.behind_c.now }
+{
+    match kind {
+        Kind::Sum => around(b"", b"+", b")", b""), // ( a + b )
+        Kind::Pick => around(b"(", b"?", b":", b")"), // pick ( a ? b : c )
+        Kind::And => around(b"(", b"and", b")", b""), // both ( a and b )
+        Kind::Less => around(b"", b"<", b")", b""), // ( a < b )
+        Kind::Assign => around(b":=", b"", b"", b""), // v := a
+        Kind::Sequence => around(b"", b";", b"}", b""), // { a ; b }
+        Kind::If => around(b"", b"then", b"else", b""), // if a then b else c
+        Kind::While => around(b"", b"do", b"", b""), // while a do b
+        Kind::ChoiceOfArithmetic | Kind::ChoiceOfBooleans | Kind::Choice => {
+            around(b"", b"?", b":", b"]") // [ a ? b : c ]
+        }
+        _ => around(b"", b"", b"", b""),
+    }
 }
 
 // A word or mark that opens nothing.
-pub fn fixed(text: &[u8], c: Cursor, x: &[u8]) -> Cursor
+pub fn fixed(text: &[u8], c: Cursor, x: &[u8]) -> Result<Cursor, Refusal>
     requires { Good text.now c }
     ensures { result ≡ fixed_to text.now c x.now }
 {
-    let d = to_token(text, c);
-    if d.refused != 0 {
-        return d;
-    }
-    word(text, d, x, NOTHING)
+    let d = to_token(text, c)?;
+    word(text, d, x, Opens::Nothing)
 }
 
-// The mark of a digit; 0 is none.
-pub fn mark(text: &[u8], c: Cursor, digit: u32) -> Cursor
+// A mark of a node, or none.
+pub fn mark(text: &[u8], c: Cursor, x: &[u8]) -> Result<Cursor, Refusal>
     requires { Good text.now c }
-    ensures { Marks text.now c digit result }
+    ensures { (o : Option Lexeme) → x.now ≡ text_of o → Marks text.now c o result }
 {
-    match digit {
-        1 => fixed(text, c, b"("),
-        2 => fixed(text, c, b")"),
-        3 => fixed(text, c, b"+"),
-        4 => fixed(text, c, b"<"),
-        5 => fixed(text, c, b"and"),
-        6 => fixed(text, c, b"?"),
-        7 => fixed(text, c, b":"),
-        8 => fixed(text, c, b"]"),
-        9 => fixed(text, c, b":="),
-        10 => fixed(text, c, b";"),
-        11 => fixed(text, c, b"}"),
-        12 => fixed(text, c, b"then"),
-        13 => fixed(text, c, b"else"),
-        14 => fixed(text, c, b"do"),
-        _ => c,
+    if x.is_empty() {
+        return Ok(c);
     }
+    fixed(text, c, x)
 }

@@ -2,12 +2,13 @@
 ghost use Rattle.std.specs.Prelude.{◌≡◌, ◌≤◌, length};
 ghost use Rattle.written.specs.Machine.{low};
 ghost use Rattle.reading.specs.Inner.Way.{Good};
-ghost use Rattle.reading.specs.Inner.Token.{refused_at, opens_of};
+ghost use Rattle.reading.specs.Inner.Token.{opens_of};
 ghost use Rattle.reading.specs.Inner.Number.{DigitsFrom, NumberFrom};
 
 use super::bytes::{byte_at, is_digit, is_run};
-use super::cursor::{Cursor, TEXT_WRONG};
-use super::token::counted;
+use super::cursor::Cursor;
+use super::token::{Opens, counted};
+use image::refusals::Refusal;
 
 // "Variables are v0 to v15"
 pub const LAST_VARIABLE: u64 = 15;
@@ -18,41 +19,32 @@ pub const MOST_OPTIONS: u64 = 6;
 // "signed decimals in 32 bits"
 pub const HIGHEST: u64 = 2147483647;
 
-// A value, and the place behind its last digit.
+// How many digits go on with a number, and the value that they make of it.
 #[derive(Clone, Copy)]
 pub struct Digits {
-    pub at: usize,
+    pub count: usize,
     pub value: u64,
 }
 
-// The digits that go on with the number n.
-fn read_digits(text: &[u8], from: usize, n: u64, most: u64) -> Digits
-    requires { (from ≤ length text.now) × (n ≤ most) × (most ≤ 4294967296) }
-    ensures { DigitsFrom text.now from n most result }
+// The digits that a text begins with, as far as they go on with the number n.
+fn read_digits(text: &[u8], n: u64, most: u64) -> Digits
+    requires { (n ≤ most) × (most ≤ 4294967296) }
+    ensures { DigitsFrom text.now n most result }
 {
-    let mut at = from;
     let mut value = n;
-    while at < text.len() {
-        let b = text[at];
-        if !is_digit(b) {
-            return Digits {
-                at: at,
-                value: value,
-            };
+    for (count, b) in text.iter().enumerate() {
+        if !is_digit(*b) {
+            return Digits { count, value };
         }
-        let next = value * 10 + ((b - b'0') as u64);
+        let next = value * 10 + u64::from(*b - b'0');
         if (value == 0) | (most < next) {
-            return Digits {
-                at: at,
-                value: value,
-            };
+            return Digits { count, value };
         }
         value = next;
-        at += 1;
     }
     Digits {
-        at: at,
-        value: value,
+        count: text.len(),
+        value,
     }
 }
 
@@ -70,22 +62,15 @@ fn least(positive: bool) -> u64
     if positive { 1 } else { 0 }
 }
 
-// No number stands here.
-fn no_number(c: Cursor, at: usize) -> Number
-    ensures { (result.cursor ≡ refused_at c 17 at) × (result.value ≡ 0) }
-{
-    Number {
-        cursor: Cursor {
-            at: at,
-            refused: TEXT_WRONG,
-            ..c
-        },
-        value: 0,
-    }
-}
-
 // The token that has a number from `at` on, from 0 to hi or from 1 to 1 + hi.
-pub fn read_number(text: &[u8], c: Cursor, at: usize, positive: bool, hi: u64, opens: u32) -> Number
+pub fn read_number(
+    text: &[u8],
+    c: Cursor,
+    at: usize,
+    positive: bool,
+    hi: u64,
+    opens: Opens,
+) -> Result<Number, Refusal>
     requires { Good text.now c × (at ≤ length text.now) × (hi ≤ 2147483647) }
     ensures { NumberFrom text.now c at positive hi (opens_of opens) result }
 {
@@ -93,19 +78,19 @@ pub fn read_number(text: &[u8], c: Cursor, at: usize, positive: bool, hi: u64, o
     let most = low + hi;
     let b = byte_at(text, at);
     if !is_digit(b) {
-        return no_number(c, at);
+        return Err(Refusal::TextWrong(at));
     }
-    let n = (b - b'0') as u64;
+    let n = u64::from(b - b'0');
     if (n < low) | (most < n) {
-        return no_number(c, at);
+        return Err(Refusal::TextWrong(at));
     }
-    let d = read_digits(text, at + 1, n, most);
-    let end = d.at;
+    let d = read_digits(&text[at + 1..], n, most);
+    let end = at + 1 + d.count;
     if is_run(byte_at(text, end)) {
-        return no_number(c, end);
+        return Err(Refusal::TextWrong(end));
     }
-    Number {
-        cursor: counted(text, c, end, true, opens),
+    Ok(Number {
+        cursor: counted(text, c, end, true, opens)?,
         value: d.value,
-    }
+    })
 }

@@ -4,49 +4,39 @@ ghost use Rattle.written.specs.Limits.{NODES, RECORDS};
 ghost use Rattle.reading.specs.Inner.Way.{Good};
 ghost use Rattle.reading.specs.Inner.Whole.{CountWay, EndWay, ReadsWhole};
 
-use super::cursor::{Cursor, TEXT_WRONG};
+use super::cursor::Cursor;
 use super::mark::fixed;
 use super::number::{MOST_OPTIONS, Number, read_number};
 use super::part::part;
 use super::spaces::{pass_spaces, to_token};
-use super::token::NOTHING;
+use super::token::Opens;
 use image::kinds::STATEMENT;
+use image::refusals::Refusal;
 
 // F.
-fn count(text: &[u8], c: Cursor) -> Number
+fn count(text: &[u8], c: Cursor) -> Result<Number, Refusal>
     requires { Good text.now c }
     ensures { CountWay text.now c result }
 {
-    let d = to_token(text, c);
-    if d.refused != 0 {
-        return Number {
-            cursor: d,
-            value: 0,
-        };
-    }
-    read_number(text, d, d.at, false, MOST_OPTIONS, NOTHING)
+    let d = to_token(text, c)?;
+    read_number(text, d, d.at, false, MOST_OPTIONS, Opens::Nothing)
 }
 
 // The end of the text.
-fn end(text: &[u8], c: Cursor) -> Cursor
+fn end(text: &[u8], c: Cursor) -> Result<(), Refusal>
     requires { Good text.now c }
     ensures { EndWay text.now c result }
 {
     let d = pass_spaces(text, c);
-    if d.refused != 0 {
-        return d;
-    }
     if d.at == text.len() {
-        return d;
-    }
-    Cursor {
-        refused: TEXT_WRONG,
-        ..d
+        Ok(())
+    } else {
+        Err(Refusal::TextWrong(d.at))
     }
 }
 
 // The routine's nodes and condition records, and F.
-pub fn whole(text: &[u8], nodes: &mut [u64], records: &mut [u32]) -> Number
+pub fn whole(text: &[u8], nodes: &mut [u64], records: &mut [u32]) -> Result<Number, Refusal>
     requires { (length nodes.old ≡ NODES) × (length records.old ≡ RECORDS) }
     ensures { ReadsWhole text.now nodes.new records.new result }
 {
@@ -57,15 +47,11 @@ pub fn whole(text: &[u8], nodes: &mut [u64], records: &mut [u32]) -> Number
         records: 0,
         node: 0,
         condition: 0,
-        refused: 0,
     };
-    let c = fixed(text, start, b"options");
-    let f = count(text, c);
+    let c = fixed(text, start, b"options")?;
+    let f = count(text, c)?;
     let d = f.cursor;
-    let e = part(text, f.value, STATEMENT, d, nodes, records);
-    let g = end(text, e);
-    Number {
-        cursor: g,
-        value: f.value,
-    }
+    let cursor = part(text, f.value, STATEMENT, d, nodes, records)?;
+    end(text, cursor)?;
+    Ok(Number { cursor, ..f })
 }

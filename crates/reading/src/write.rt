@@ -1,41 +1,21 @@
 // The image of what has been read: "14 last", and nothing is written before it is known that all fits.
-ghost use Rattle.std.specs.Prelude.{◌≡◌, ◌+◌, ◌*◌, ◌≤◌, length, take};
+ghost use Rattle.std.specs.Prelude.{◌≡◌, ℕ, ◌+◌, ◌*◌, ◌≤◌, length, take};
+ghost use Rattle.std.specs.List.{flat_map};
 ghost use Rattle.std.proofs.lemmas.List.Edits.{sets};
-ghost use Rattle.image.specs.Term.{all_bytes};
-ghost use Rattle.written.specs.Image.{record_bytes};
+ghost use Rattle.image.specs.Term.{bytes_of};
 ghost use Rattle.reading.specs.Inner.Writing.{Writing, Writes};
 
 use image::refusals::Refusal;
 use image::words::{head_word, put};
 
-// The length of the image written, or the refusal.
-#[derive(Clone, Copy)]
-pub enum ReadText {
-    Length(usize),
-    Refused(Refusal),
-}
-
-// The first n records, 4 bytes each.
-fn put_records(out: &mut [u8], at: usize, records: &[u32], n: usize)
-    requires { (at + 4 * n ≤ length out.old) × (n ≤ length records.now) }
-    ensures { out.new ≡ sets out.old at (record_bytes (take n records.now)) }
+// Words one behind another, `width` bytes each.
+fn put_words<T: Copy + Into<u64>>(out: &mut [u8], at: usize, words: &[T], width: usize)
+    requires { at + width * length words.now ≤ length out.old }
+    ensures { (value : T → ℕ) → ((w : T) (n : ℕ) → T.converts w n → n ≡ value w)
+        → out.new ≡ sets out.old at (flat_map (λ w. bytes_of width (value w)) words.now) }
 {
-    let mut i = 0;
-    while i < n {
-        put(out, at + 4 * i, records[i] as u64, 4);
-        i += 1;
-    }
-}
-
-// The first n nodes, 8 bytes each.
-fn put_nodes(out: &mut [u8], at: usize, nodes: &[u64], n: usize)
-    requires { (at + 8 * n ≤ length out.old) × (n ≤ length nodes.now) }
-    ensures { out.new ≡ sets out.old at (all_bytes (take n nodes.now)) }
-{
-    let mut i = 0;
-    while i < n {
-        put(out, at + 8 * i, nodes[i], 8);
-        i += 1;
+    for (i, w) in words.iter().enumerate() {
+        put(out, at + width * i, (*w).into(), width);
     }
 }
 
@@ -47,17 +27,17 @@ pub fn write_image(
     records: &[u32],
     nodes: &[u64],
     out: &mut [u8],
-) -> ReadText
+) -> Result<usize, Refusal>
     requires { Writing options conditions count records.now nodes.now }
     ensures { Writes options conditions count records.now nodes.now out.old out.new result }
 {
     let first = 8 + 4 * conditions;
     let length = first + 8 * count;
     if out.len() < length {
-        return ReadText::Refused(Refusal::SpaceShort);
+        return Err(Refusal::SpaceShort);
     }
     put(out, 0, head_word(options as usize, conditions, count), 8);
-    put_records(out, 8, records, conditions);
-    put_nodes(out, first, nodes, count);
-    ReadText::Length(length)
+    put_words(out, 8, &records[..conditions], 4);
+    put_words(out, first, &nodes[..count], 8);
+    Ok(length)
 }

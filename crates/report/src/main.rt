@@ -5,7 +5,7 @@ ghost use Rattle.std.specs.Prelude.{◌≡◌, ◌≤◌, length, take};
 ghost use Rattle.lines.specs.Limits.{most, enough};
 ghost use Rattle.report.specs.Stream.{Tells};
 
-use lines::{ENOUGH, Report, report};
+use lines::{ENOUGH, report};
 use std::io::Write;
 use streams::{complain, read_input};
 
@@ -13,6 +13,7 @@ use streams::{complain, read_input};
 const MOST: usize = 9237;
 
 // The text of what was read, at the start of `space`, and its length. It is never short: every text fits.
+// By input and n, and not by the part that was read: `Tells` speaks of the whole space.
 fn tell(input: &[u8], n: usize, space: &mut [u8]) -> usize
     requires input_len { length input.now ≡ most }
     requires n_in_bounds { n ≤ length input.now }
@@ -20,10 +21,7 @@ fn tell(input: &[u8], n: usize, space: &mut [u8]) -> usize
     ensures upper_bound { result ≤ length space.new }
     ensures tells { Tells input.now n (take result space.new) }
 {
-    match report(&input[..n], space) {
-        Report::Text(end) => end,
-        Report::Short(end) => end,
-    }
+    report(&input[..n], space).unwrap()
 }
 
 // Writes nothing but the text of what was read; false if it cannot be written.
@@ -48,10 +46,8 @@ fn answer_to<W: Write, E: Write>(out: &mut W, errors: &mut E, input: &[u8], n: u
 // "it reads no more than 9,237 bytes"
 fn main(rt: HostRuntime) {
     let mut input = [0u8; MOST];
-    let got = read_input(&mut rt.stdin(), &mut input);
-    if got.failed {
-        complain(&mut rt.stderr(), b"report: the input cannot be read\n");
-        return;
+    match read_input(&mut rt.stdin(), &mut input) {
+        Ok(n) => answer_to(&mut rt.stdout(), &mut rt.stderr(), &input, n),
+        Err(_) => complain(&mut rt.stderr(), b"report: the input cannot be read\n"),
     }
-    answer_to(&mut rt.stdout(), &mut rt.stderr(), &input, got.bytes)
 }

@@ -1,8 +1,6 @@
 -- What a set of settings is: which settings are members, how many, and which sets are full.
-use Rattle.std.specs.Prelude.{Bool, true, false, ℕ, zero, suc, ◌+◌, ◌-◌, ◌/◌, ◌%◌, ◌^◌, eqb, ltb}
+use Rattle.std.specs.Prelude.{Bool, true, false, ℕ, zero, suc, ◌+◌, ◌-◌, ◌/◌, ◌%◌, ◌^◌, eqb, ltb, Option, None, Some}
 use Rattle.sets.specs.declared.Set.{Set}
-use Rattle.sets.specs.declared.Full.{Full}
-use Rattle.sets.specs.declared.Full.TheVariants.{Of, Refused}
 
 -- the binary digit of n of weight 2 ^ s
 unfoldable pub digit : ℕ → ℕ → ℕ
@@ -26,9 +24,9 @@ pub data Verdict : Type 0 where
   refused : ℕ → ℕ → Verdict
   full_set : ℕ → Verdict
 
-abbrev pub verdict_of : Full → Verdict
-verdict_of (Of S) = full_set S.bits
-verdict_of Refused = refused 3 0
+abbrev pub verdict_of : Option Set → Verdict
+verdict_of (Some S) = full_set S.bits
+verdict_of None = refused 3 0
 
 -- "The full set of F options is refused with 3 when F is above 6", at place 0. Else it has the settings below 2 ^ f: those below n
 -- are the members of 2 ^ n - 1 (`bit_ones` of proofs/Laws.antt)
@@ -40,9 +38,9 @@ unfoldable pub full_of : ℕ → Verdict
 full_of f = judged (ltb 6 f) f
 
 -- the members of an answer: a refusal has none
-abbrev pub full_has : Full → ℕ → Bool
-full_has (Of S) s = has S s
-full_has Refused s = false
+abbrev pub full_has : Option Set → ℕ → Bool
+full_has (Some S) s = has S s
+full_has None s = false
 
 -- what the panel is told of a verdict: the bits, 0 for a refusal; the refusal's number, 0 for none
 abbrev pub bits_of : Verdict → ℕ

@@ -4,20 +4,10 @@
 ghost use Rattle.std.specs.Prelude.{◌≡◌, ◌&&◌, ◌||◌, not, ℕ, ◌^◌, eqb, ltb, leb, get_or};
 ghost use Rattle.sets.specs.Member.{bit, has, members, verdict_of, full_of, full_has};
 
-#[derive(Clone, Copy)]
+#[derive(Clone, Copy, PartialEq, Eq)]
 pub struct Set {
     pub bits: u64,
 }
-
-// The answer of `Set::full`.
-#[derive(Clone, Copy)]
-pub enum Full {
-    Of(Set),
-    Refused,
-}
-
-// Every setting below 64.
-const ALL: u64 = 0xFFFF_FFFF_FFFF_FFFF;
 
 impl Set {
     pub fn empty() -> Set
@@ -30,10 +20,9 @@ impl Set {
     pub fn at(table: &[u64], k: usize) -> Set
         ensures { result.bits ≡ get_or table.now k 0 }
     {
-        if k < table.len() {
-            return Set { bits: table[k] };
+        Set {
+            bits: table.get(k).copied().unwrap_or(0),
         }
-        Set { bits: 0 }
     }
 
     pub fn meet(self, other: Set) -> Set
@@ -81,7 +70,7 @@ impl Set {
     pub fn count(self) -> u32
         ensures { result ≡ members self.bits 64 }
     {
-        u64::count_ones(self.bits)
+        self.bits.count_ones()
     }
 
     // The set with setting s joined. A setting at 64 or above can be no member, so the set is unchanged.
@@ -95,16 +84,16 @@ impl Set {
     }
 
     // The n = 2^f settings of f options, "refused with 3 when F is above 6": what is left of all 64 when the upper ones are shifted out.
-    pub fn full(f: u32) -> Full
+    pub fn full(f: u32) -> Option<Set>
         ensures verdict { verdict_of result ≡ full_of f }
         ensures members { (s : ℕ) → full_has result s ≡ (leb f 6 && ltb s (2 ^ f)) }
     {
         if 6 < f {
-            return Full::Refused;
+            return None;
         }
         let n = 1u64 << f;
-        Full::Of(Set {
-            bits: ALL >> (64 - n),
+        Some(Set {
+            bits: u64::MAX >> (64 - n),
         })
     }
 
@@ -113,12 +102,12 @@ impl Set {
         ensures { (s : ℕ) → has result s ≡ (has full s && bit s k) }
     {
         if 6 <= k {
-            return Set { bits: 0 };
+            return Set::empty();
         }
         // All ones divided by 2^w + 1 are w ones and w zeros in turn; with w = 2^k the ones are the settings in which option k is off.
         let stripe = 1u64 << k;
         full.take_away(Set {
-            bits: ALL / ((1u64 << stripe) + 1),
+            bits: u64::MAX / ((1u64 << stripe) + 1),
         })
     }
 }

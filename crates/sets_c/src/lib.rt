@@ -4,7 +4,7 @@
 ghost use Rattle.std.specs.Prelude.{◌≡◌, ◌&&◌, ◌||◌, not, ℕ, ◌^◌, eqb, ltb, leb};
 ghost use Rattle.sets.specs.Member.{bit, members, full_of, bits_of, verdict_number};
 
-use sets::{Full, Set};
+use sets::Set;
 
 #[unsafe(no_mangle)]
 pub extern "C" fn sets_meet(a: u64, b: u64) -> u64
@@ -51,8 +51,8 @@ pub extern "C" fn sets_full(f: u32) -> u64
     ensures members { (s : ℕ) → bit result s ≡ (leb f 6 && ltb s (2 ^ f)) }
 {
     match Set::full(f) {
-        Full::Of(all) => all.bits,
-        Full::Refused => 0,
+        Some(all) => all.bits,
+        None => 0,
     }
 }
 
@@ -62,8 +62,8 @@ pub extern "C" fn sets_full_refusal(f: u32) -> u32
     ensures { result ≡ verdict_number (full_of f) }
 {
     match Set::full(f) {
-        Full::Of(_) => 0,
-        Full::Refused => 3,
+        Some(_) => 0,
+        None => 3,
     }
 }
 

@@ -1,11 +1,11 @@
 -- What a statement does by itself, kind by kind, in one setting; and what all settings' states are after it.
 use mathlib.Core.Path.{◌≡◌, refl, sym, ◌∙◌, ap, ap₂, subst}
 use mathlib.Core.Bool.{Bool, true, false, ◌&&◌, cond}
-use mathlib.Core.List.{List}
 use Prim.Native.Nat.{ℕ, ◌+◌, ◌-◌, ◌*◌, ◌<◌}
 use native.Mathlib.Decide.{ℕ_discrete}
 use lib.Dec.{eqb}
 use lib.IntN.{ℤ}
+use lib.ListN.{length}
 use borrow.Author.Tests.{eq-eqb, ne_eqb}
 use borrow.Rule.Slice.PartMut.{put_mid}
 use Rattle.sets.specs.declared.Set.{Set}
@@ -18,9 +18,11 @@ use Rattle.image.specs.Tree.{read}
 use Rattle.plain.specs.declared.progress.Progress.{Progress}
 use Rattle.plain.specs.Inner.Progress.{state_of}
 use Rattle.plain.specs.Inner.Running.{Ran}
+use Rattle.shared.specs.declared.lent.Lent.{Lent}
 use Rattle.shared.specs.declared.plan.Plan.{Plan}
-use Rattle.shared.specs.Lent.{Tally, progress, part}
-use Rattle.shared.specs.Inner.Lent.{Tallied, Lent, put, own, as_shared}
+use Rattle.shared.specs.Lent.{progress, part}
+use Rattle.shared.specs.Inner.Lent.{Tallied, Measured, put, own, as_shared}
+use Rattle.shared.specs.Inner.Handed.{image_in, tally_in}
 use Rattle.shared.specs.Inner.Each.{Only}
 use Rattle.shared.specs.Inner.Acting.{acting, ActedAt, ActedFor}
 use Rattle.shared.proofs.Each.{Upto, upto_all}
@@ -60,38 +62,28 @@ module _ {s : ℕ} {S : Settings} {f : ℕ → State → State} {at : ℕ → St
       go t (yes e) = rw (e, on, eq-eqb s s refl) here
       go t (no e) = rw (ne_eqb t s e) (other t e ∙ elsewhere (S t) (f t (at t)) (at t))
 
-  unchanged : S s ≡ false → Only s S f at at
-  unchanged off = record { changed = λ t. go t (ℕ_discrete t s) }
-    where
-      go : (t : ℕ) → Dec (t ≡ s) → at t ≡ cond (S t && eqb t s) (f t (at t)) (at t)
-      go t (yes e) = rw (e, off) refl
-      go t (no e) = rw (ne_eqb t s e) (elsewhere (S t) (f t (at t)) (at t))
-
-module _ {l : Bytes} {plan : Plan} {ν : Node} {on : Set} {s : ℕ} {xs : List ℤ} {T : Tally} (lent : Lent plan.settings xs T) where
-  pub not_acted : bit on.bits s ≡ false → ActedAt l plan ν on s xs T xs T
-  not_acted off = record { acted = unchanged off; lent = lent }
-
+module _ (plan : Plan) (ν : Node) (on : Set) (s : ℕ) (L : Lent) (lent : Measured plan.settings L.store.now (tally_in L)) where
   -- its part comes back as ys, and its progress is q
-  pub acted : {q : Progress} {ys : Numbers} {T' : Tally} → s < plan.settings → bit on.bits s ≡ true → T' ≡ put s q T
-      → Ran (acting l ν s (state_of (progress T s) (part xs s))) q ys
-      → ActedAt l plan ν on s xs T (put_mid (s * 16) ((s * 16 + 16) - s * 16) xs ys) T'
+  pub acted : {q : Progress} {ys : Numbers} {L' : Lent} → s < plan.settings → bit on.bits s ≡ true
+      → L'.store.now ≡ put_mid (s * 16) ((s * 16 + 16) - s * 16) L.store.now ys → tally_in L' ≡ put s q (tally_in L)
+      → Ran (acting (image_in plan) ν s (state_of (progress (tally_in L) s) (part L.store.now s))) q ys → ActedAt plan ν on s L L'
   unfolding own
-  acted {q} {ys} {T'} below here is-put ran = record {
+  acted {q} {ys} {L'} below here back is-put ran = record {
     acted = changed_here here
-        (ap₂ state_of (ap (λ T. progress T s) is-put ∙ progress_put lent.tallied below q s ∙ ap (λ u. cond u q (progress T s)) (eq-eqb s s refl))
-        (back_here xs plan.settings s lent.store_length below ys ran.sixteen)
+        (ap₂ state_of (ap (λ T. progress T s) is-put ∙ progress_put lent.tallied below q s ∙ ap (λ u. cond u q (progress (tally_in L) s)) (eq-eqb s s refl))
+        (ap (λ zs. part zs s) back ∙ back_here L.store.now plan.settings s lent.store_length below ys ran.sixteen)
         ∙ ran.reaches)
         (λ t other. ap₂ state_of
-        (ap (λ T. progress T t) is-put ∙ progress_put lent.tallied below q t ∙ ap (λ u. cond u q (progress T t)) (ne_eqb t s other))
-        (back_other xs plan.settings s lent.store_length below ys ran.sixteen t other));
+        (ap (λ T. progress T t) is-put ∙ progress_put lent.tallied below q t ∙ ap (λ u. cond u q (progress (tally_in L) t)) (ne_eqb t s other))
+        (ap (λ zs. part zs t) back ∙ back_other L.store.now plan.settings s lent.store_length below ys ran.sixteen t other));
     lent = record {
-      store_length = back_length xs plan.settings s lent.store_length below ys ran.sixteen;
+      store_length = ap length back ∙ back_length L.store.now plan.settings s lent.store_length below ys ran.sixteen;
       tallied = subst (λ T. Tallied plan.settings T) (sym is-put) (put_tallied lent.tallied below q ran.proper);
     };
   }
 
 -- every setting of the set has had its turn
-pub acted_for : {l : Bytes} {plan : Plan} {ν : Node} {on : Set} {xs xs' : List ℤ} {T T' : Tally} → Below plan.settings (bit on.bits)
-    → Lent plan.settings xs' T' → Upto plan.settings (bit on.bits) (acting l ν) (own xs T) (own xs' T') → ActedFor l plan ν on xs T xs' T'
+pub acted_for : (plan : Plan) (ν : Node) (on : Set) (L L' : Lent) → Below plan.settings (bit on.bits) → Measured plan.settings L'.store.now (tally_in L')
+    → Upto plan.settings (bit on.bits) (acting (image_in plan) ν) (own L.store.now (tally_in L)) (own L'.store.now (tally_in L')) → ActedFor plan ν on L L'
 unfolding as_shared for
-acted_for below lent all = record { acted = λ visits. ap (λ at. record { at = at; visits = visits }) (upto_all below all); lent = lent }
+acted_for plan ν on L L' below lent all = record { acted = λ visits. ap (λ at. record { at = at; visits = visits }) (upto_all below all); lent = lent }

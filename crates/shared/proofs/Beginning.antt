@@ -1,5 +1,5 @@
 -- A statement is begun in one setting, then in all of a set, one after the other: those of them that were ready are left.
-use mathlib.Core.Path.{◌≡◌, refl, sym, ◌∙◌, ap, ap₂, subst, fun_ext}
+use mathlib.Core.Path.{◌≡◌, refl, sym, ◌∙◌, ap, subst, fun_ext}
 use mathlib.Core.Bool.{Bool, true, false, not, ◌&&◌, ◌||◌, cond}
 use mathlib.Core.List.{List, []}
 use Prim.Native.Nat.{ℕ, suc, ◌+◌, ◌-◌, ◌<◌}
@@ -11,7 +11,7 @@ use lib.IntN.{ℤ}
 use borrow.Author.Tests.{eq-eqb, ne_eqb, eqb-false, lt-ltb}
 use Rattle.sets.specs.declared.Set.{Set}
 use Rattle.sets.specs.Member.{bit, members}
-use Rattle.imp.specs.State.{ready, enter}
+use Rattle.imp.specs.State.{State, ready, enter}
 use Rattle.imp.specs.Shared.{Settings, any, for, visited, where_true, shared}
 use Rattle.imp.proofs.Theorem.Begin.{ready_lt}
 use Rattle.imp.proofs.Theorem.Sets.{and_true, any_true}
@@ -20,9 +20,12 @@ use Rattle.plain.specs.declared.progress.Progress.{Progress}
 use Rattle.plain.specs.Inner.Progress.{state_of}
 use Rattle.plain.specs.Inner.Running.{Began}
 use Rattle.plain.proofs.Beginning.{ready_is}
+use Rattle.shared.specs.declared.lent.Lent.{Lent}
+use Rattle.shared.specs.declared.plan.Plan.{Plan}
 use Rattle.shared.specs.declared.turn.Turn.{Turn}
 use Rattle.shared.specs.Lent.{Tally, progress, part}
 use Rattle.shared.specs.Inner.Lent.{Tallied, put, own, as_shared}
+use Rattle.shared.specs.Inner.Handed.{tally_in, state_in}
 use Rattle.shared.specs.Inner.Each.{Only}
 use Rattle.shared.specs.Inner.Beginning.{BeganAt, BeginningFor, BegunFor}
 use Rattle.shared.proofs.Each.{Upto, upto_none, upto_next, upto_here, upto_all}
@@ -67,15 +70,6 @@ joined_by_none false true = refl
 joined_by_none false false = refl
 
 module _ {N b : ℕ} (on before : Set) {s : ℕ} {T : Tally} (tallied : Tallied N T) where
-  -- a setting that is not of the set
-  pub not_of_it : bit on.bits s ≡ false → BeganAt N b on s before T T before
-  not_of_it e =
-      record {
-        entered = λ xs. record { changed = λ t. rw (at_one (bit on.bits) s false e t) refl };
-        left_is = λ t. rw (at_one (bit on.bits) s false e t) (no_more (bit before.bits t));
-        tallied = tallied;
-      }
-
   -- a setting of the set, read as p and begun: as far as q
   module _ (below : s < N) (e : bit on.bits s ≡ true) {p q : Progress} (read : p ≡ progress T s) (began : Began b p q) where
     begun_here : Began b (progress T s) q
@@ -131,60 +125,77 @@ one_more {b = b} {k} {on} {left} {T = T} {T'} i h = rw (add-one k)
       tallied = h.tallied;
     })
 
-module _ {N b rem visits : ℕ} {on left' : Set} {T T' : Tally} (pre : BeginningFor N b on rem visits T) (i : BegunBelow N b on N T T' left') where
+module _ (plan : Plan) (turn : Turn) (L L' : Lent) {left' : Set} (pre : BeginningFor plan turn L) (store_is : L'.store.now ≡ L.store.now)
+    (i : BegunBelow plan.settings plan.budget turn.on plan.settings (tally_in L) (tally_in L') left') where
+  abbrev N : ℕ
+  N = plan.settings
+
+  abbrev b : ℕ
+  b = plan.budget
+
   abbrev S : Settings
-  S = bit on.bits
+  S = bit turn.on.bits
+
+  -- the state of a setting as the turn finds it
+  abbrev was : ℕ → State
+  was = own L.store.now (tally_in L)
 
   -- those that are left, of the set and ready
-  left_ready : (t : ℕ) → bit left'.bits t ≡ (S t && ready b (own [] T t))
+  left_ready : (t : ℕ) → bit left'.bits t ≡ (S t && ready b (own [] (tally_in L) t))
   left_ready = found_all pre.below i.left_is
 
-  left_are : (xs : List ℤ) → bit left'.bits ≡ where_true (λ s. ready b) S (as_shared xs T visits)
+  left_are : bit left'.bits ≡ where_true (λ s. ready b) S (state_in L turn.visits)
   unfolding where_true as_shared own state_of ready
-  left_are xs = fun_ext left_ready
+  left_are = fun_ext left_ready
+
+  -- what each setting's beginning has come to, at the store as it is
+  reached_at : (v : ℕ) → state_in L' v ≡ record { at = λ t. cond (S t) (enter b (was t)) (was t); visits = v }
+  unfolding as_shared
+  reached_at v = ap (λ ys. as_shared ys (tally_in L') v) store_is ∙ ap (λ at. record { at = at; visits = v }) (upto_all pre.below (i.entered L.store.now))
 
   any_left : any N (bit left'.bits) ≡ not (eqb (members left'.bits 64) 0)
-  any_left = any_members N left'.bits pre.few λ s e. pre.below s (and_true (S s) (ready b (own [] T s)) (sym (left_ready s) ∙ e)).0
+  any_left = any_members N left'.bits plan.prepared.few λ s e. pre.below s (and_true (S s) (ready b (own [] (tally_in L) s)) (sym (left_ready s) ∙ e)).0
 
   -- each of them has a step to go
-  pub to_go : (members left'.bits 64 ≡ 0 → ⊥) → 0 < rem
+  pub to_go : (members left'.bits 64 ≡ 0 → ⊥) → 0 < turn.rem
   unfolding own state_of
   to_go some =
       let r : (s : ℕ) × (s < N) × (bit left'.bits s ≡ true) = any_true N (bit left'.bits) (any_left ∙ rw (ne_eqb (members left'.bits 64) 0 some) refl) in
-      let both = and_true (S r.0) (ready b (own [] T r.0)) (sym (left_ready r.0) ∙ r.2) in
-      omega (arith, pre.remaining r.0 both.0, ready_lt b (own [] T r.0) both.1)
+      let both = and_true (S r.0) (ready b (own [] (tally_in L) r.0)) (sym (left_ready r.0) ∙ r.2) in
+      omega (arith, pre.remaining r.0 both.0, ready_lt b (own [] (tally_in L) r.0) both.1)
 
-  none_left : eqb (members left'.bits 64) 0 ≡ true → BegunFor N b on rem visits T T' (record { on = left'; rem = rem; visits = visits })
+  none_left : eqb (members left'.bits 64) 0 ≡ true → BegunFor plan turn L L' (record { on = left'; rem = turn.rem; visits = turn.visits })
   unfolding shared as_shared for left
   none_left e =
       let none : any N (bit left'.bits) ≡ false = any_left ∙ ap not e in
       record {
-        reaches = λ xs. ap (λ at. record { at = at; visits = visits }) (upto_all pre.below (i.entered xs))
-            ∙ sym (begun_none N b _ S (as_shared xs T visits) (sym (ap (any N) (left_are xs)) ∙ none));
+        reaches = reached_at turn.visits ∙ sym (begun_none N b _ S (state_in L turn.visits) (sym (ap (any N) left_are) ∙ none));
         left_is = left_are;
         rem_is = rw none refl;
+        store_is = store_is;
         tallied = i.tallied;
       }
 
-  some_left : eqb (members left'.bits 64) 0 ≡ false → BegunFor N b on rem visits T T' (record { on = left'; rem = rem - 1; visits = visits + 1 })
+  some_left : eqb (members left'.bits 64) 0 ≡ false → BegunFor plan turn L L' (record { on = left'; rem = turn.rem - 1; visits = turn.visits + 1 })
   unfolding shared as_shared for left reached visited
   some_left e =
       let some : any N (bit left'.bits) ≡ true = any_left ∙ ap not e in
-      let less : suc (rem - 1) ≡ rem = omega (arith, to_go (eqb-false _ 0 e)) in
+      let less : suc (turn.rem - 1) ≡ turn.rem = omega (arith, to_go (eqb-false _ 0 e)) in
       record {
-        reaches = λ xs. ap₂ (λ at n. record { at = at; visits = n }) (upto_all pre.below (i.entered xs)) (add-one visits)
-            ∙ sym (begun_some N b _ S (as_shared xs T visits) (sym (ap (any N) (left_are xs)) ∙ some));
+        reaches = ap (state_in L') (add-one turn.visits) ∙ reached_at (suc turn.visits)
+            ∙ sym (begun_some N b _ S (state_in L turn.visits) (sym (ap (any N) left_are) ∙ some));
         left_is = left_are;
         rem_is = rw some less;
+        store_is = store_is;
         tallied = i.tallied;
       }
 
   pub all_begun : {r : Turn}
-      → r ≡ cond (eqb (members left'.bits 64) 0) (record { on = left'; rem = rem; visits = visits }) (record { on = left'; rem = rem - 1; visits = visits + 1 })
-      → BegunFor N b on rem visits T T' r
-  all_begun is = subst (BegunFor N b on rem visits T T') (sym is) (go (eqb (members left'.bits 64) 0) refl)
+      → r ≡ cond (eqb (members left'.bits 64) 0) (record turn { on = left' }) (record { on = left'; rem = turn.rem - 1; visits = turn.visits + 1 })
+      → BegunFor plan turn L L' r
+  all_begun is = subst (BegunFor plan turn L L') (sym is) (go (eqb (members left'.bits 64) 0) refl)
     where
       go : (u : Bool) → eqb (members left'.bits 64) 0 ≡ u
-          → BegunFor N b on rem visits T T' (cond u (record { on = left'; rem = rem; visits = visits }) (record { on = left'; rem = rem - 1; visits = visits + 1 }))
+          → BegunFor plan turn L L' (cond u (record turn { on = left' }) (record { on = left'; rem = turn.rem - 1; visits = turn.visits + 1 }))
       go true e = none_left e
       go false e = some_left e

@@ -5,13 +5,13 @@ use mathlib.Core.List.{List, []}
 use Prim.Native.Nat.{ℕ, ◌-◌, ◌*◌, ◌≤◌, ◌<◌}
 use native.Mathlib.Omega.{arith}
 use lib.Dec.{eqb}
-use lib.IntN.{ℤ}
 use lib.ListN.{length, get_or}
 use lib.Pow.{pow_mono}
+use Rattle.std.specs.Prelude.{Ok}
 use Rattle.sets.specs.declared.Set.{Set}
 use Rattle.sets.specs.Member.{bit}
 use Rattle.imp.specs.State.{Numbers, fresh, untouched}
-use Rattle.imp.specs.Shared.{Settings, start, shared_run, Below}
+use Rattle.imp.specs.Shared.{Settings, Shared, start, shared, shared_run, Below}
 use Rattle.image.specs.declared.accept.Shape.{Shape}
 use Rattle.image.specs.Bytes.{Bytes}
 use Rattle.image.specs.Records.{header}
@@ -19,14 +19,14 @@ use Rattle.image.specs.Check.{shape_of}
 use Rattle.image.specs.Rows.{answer, judge, written}
 use Rattle.image.specs.Sets.{settings}
 use Rattle.image.specs.Inner.SetsOf.{SetsOf}
-use Rattle.image.specs.Tree.{routine}
+use Rattle.image.specs.Tree.{read, routine}
 use Rattle.image.proofs.Theorem.Held.{root_class}
-use Rattle.shared.specs.declared.plan.Plan.{Plan}
-use Rattle.shared.specs.declared.SharedRun.TheVariants.{Ended}
-use Rattle.shared.specs.Lent.{Tally, part}
-use Rattle.shared.specs.Inner.Lent.{as_shared}
-use Rattle.shared.specs.Inner.Prepared.{OfClass}
-use Rattle.shared.specs.Inner.Sharing.{Within, Sharing, Shares, sharing}
+use Rattle.shared.specs.declared.lent.Lent.{Lent}
+use Rattle.shared.specs.Lent.{part}
+use Rattle.shared.specs.Inner.Lent.{Measured}
+use Rattle.shared.specs.Inner.Handed.{tally_in, state_in}
+use Rattle.shared.specs.Inner.Prepared.{Prepared, OfClass}
+use Rattle.shared.specs.Inner.Sharing.{Within, Shares}
 use Rattle.shared.specs.Inner.Starting.{Sized, Starts}
 use Rattle.shared.specs.SharedRun.{SharedRuns, meant, set_of}
 use Rattle.shared.specs.Inner.Carried.{Carried}
@@ -42,7 +42,7 @@ at_first : (N budget : ℕ) (S : Settings) (numbers : ℕ → Numbers) → Withi
 unfolding start
 at_first N budget S numbers = record { steps_within = λ s h. omega (arith, no_steps (S s) (numbers s)); visits_within = omega arith }
 
-module _ {l : Bytes} {shape : Shape} {set : Set} {budget : ℕ} {xs : List ℤ} {T : Tally} (h : Carried l shape set budget xs T) where
+module _ {l : Bytes} {shape : Shape} {set : Set} {budget : ℕ} {L : Lent} (h : Carried l shape set budget L) where
   conditions_are : shape.conditions ≡ (header l).conditions
   unfolding shape_of
   conditions_are = ap (λ (s : Shape). s.conditions) h.shape_is
@@ -56,18 +56,28 @@ module _ {l : Bytes} {shape : Shape} {set : Set} {budget : ℕ} {xs : List ℤ} 
   few = pow_mono h.accepted.few_options
 
   abbrev N : ℕ
-  N = length T.outcomes
-
-  abbrev plan : Plan
-  plan = record { conditions = shape.conditions; settings = N; budget = budget }
+  N = length L.outcomes.now
 
   -- ---- before the run
+
+  pub prepared : {sets : List ℕ} → SetsOf l shape.conditions sets → Prepared l shape.conditions sets N budget
+  prepared right = record {
+    ready = λ s below. record {
+      accepted = h.accepted;
+      conditions_are = conditions_are;
+      sets_right = right;
+      setting_below = below;
+    };
+    settings_are = h.sized.outcomes_length;
+    few = omega (arith, few, h.sized.outcomes_length);
+    allowed = h.allowed;
+  }
 
   pub some_node : 1 ≤ shape.nodes
   some_node = omega (arith, nodes_are, h.accepted.some_node)
 
-  pub can_start : Sized N T × Below N (bit set.bits)
-  can_start = subst (λ n. Sized n T × Below n (bit set.bits)) (sym h.sized.outcomes_length) (h.sized, h.below)
+  pub can_start : Sized N (tally_in L) × Below N (bit set.bits)
+  can_start = subst (λ n. Sized n (tally_in L) × Below n (bit set.bits)) (sym h.sized.outcomes_length) (h.sized, h.below)
 
   pub root_is : OfClass l (shape.nodes - 1) 3
   root_is =
@@ -79,47 +89,33 @@ module _ {l : Bytes} {shape : Shape} {set : Set} {budget : ℕ} {xs : List ℤ} 
             (omega (arith, nodes_are, some_node));
       }
 
-  module _ {T' : Tally} (started : Starts N set T') where
-    pub can_run : {sets : List ℕ} → SetsOf l shape.conditions sets → Sharing l plan sets budget set 0 xs T'
-    can_run right = record {
-      prepared = record {
-        ready = λ s below. record {
-          accepted = h.accepted;
-          conditions_are = conditions_are;
-          sets_right = right;
-          setting_below = below;
-        };
-        settings_are = h.sized.outcomes_length;
-        few = omega (arith, few, h.sized.outcomes_length);
-        allowed = h.allowed;
-      };
-      below = can_start.1;
-      remaining = λ s e. omega arith;
-      lent = record { store_length = h.store_length ∙ ap (λ n. n * 16) (sym h.sized.outcomes_length); tallied = started.tallied };
-      within = subst (Within N budget) (sym (started.starts xs)) (at_first N budget (bit set.bits) (part xs));
-    }
+  module _ {L₁ : Lent} (started : Starts N set L L₁) where
+    pub first_lent : Measured N L₁.store.now (tally_in L₁)
+    first_lent = record { store_length = ap length started.store_is ∙ h.store_length ∙ ap (λ n. n * 16) (sym h.sized.outcomes_length); tallied = started.tallied }
+
+    pub first_within : Within N budget (state_in L₁ 0)
+    first_within = subst (Within N budget) (sym started.starts) (at_first N budget (bit set.bits) (part L.store.now))
 
     -- ---- after it
 
-    is_meant : sharing plan l (shape.nodes - 1) (bit set.bits) (as_shared xs T' 0) ≡ meant l set.bits budget xs
+    abbrev ran_to : Bytes → Shared
+    ran_to l' = shared N budget (read l' (shape.nodes - 1)).statement (bit set.bits) (state_in L₁ 0)
+
+    is_meant : ran_to l ≡ meant l set.bits budget L.store.now
     unfolding meant shared_run routine
     is_meant =
-        ap (sharing plan l (shape.nodes - 1) (bit set.bits)) (started.starts xs)
-        ∙ ap (λ n. sharing plan l (n - 1) (bit set.bits) (start (bit set.bits) (part xs))) nodes_are
-        ∙ ap (λ n. shared_run n budget (routine l) (bit set.bits) (part xs)) h.sized.outcomes_length
+        ap (shared N budget (read l (shape.nodes - 1)).statement (bit set.bits)) started.starts
+        ∙ ap (λ n. shared N budget (read l (n - 1)).statement (bit set.bits) (start (bit set.bits) (part L.store.now))) nodes_are
+        ∙ ap (λ n. shared_run n budget (routine l) (bit set.bits) (part L.store.now)) h.sized.outcomes_length
 
-    module _ {visits : ℕ} {xs' : List ℤ} {T'' : Tally}
-        (ran : Shares N (sharing plan l (shape.nodes - 1) (bit set.bits) (as_shared xs T' 0)) visits xs' T'') where
-      reached : Shares (settings l) (meant l set.bits budget xs) visits xs' T''
+    module _ {l' : Bytes} {visits : ℕ} {L₂ : Lent} (image_is : l' ≡ l) (ran : Shares N (ran_to l') visits L₂) where
+      reached : Shares (settings l) (meant l set.bits budget L.store.now) visits L₂
       reached =
-          subst (λ n. Shares n (meant l set.bits budget xs) visits xs' T'') h.sized.outcomes_length
-          (subst (λ Σ. Shares N Σ visits xs' T'') is_meant ran)
+          subst (λ n. Shares n (meant l set.bits budget L.store.now) visits L₂) h.sized.outcomes_length
+          (subst (λ Σ. Shares N Σ visits L₂) (ap ran_to image_is ∙ is_meant) ran)
 
-      pub few_outcomes : length T''.outcomes ≤ 64
-      few_outcomes = omega (arith, few, reached.lent.tallied.outcomes_length)
-
-      pub ended_as_meant : {fault out : Set} → fault.bits ≡ set_of (length T''.outcomes) (λ s. eqb (get_or T''.outcomes s 0) 2)
-          → out.bits ≡ set_of (length T''.outcomes) (λ s. eqb (get_or T''.outcomes s 0) 3)
-          → SharedRuns [] l set.bits budget xs T xs' T'' (Ended (record { visits = visits; fault = fault; out = out }))
+      pub ended_as_meant : {fault out : Set} → fault.bits ≡ set_of (length L₂.outcomes.now) (λ s. eqb (get_or L₂.outcomes.now s 0) 2)
+          → out.bits ≡ set_of (length L₂.outcomes.now) (λ s. eqb (get_or L₂.outcomes.now s 0) 3)
+          → SharedRuns [] l set.bits budget L.store.now (tally_in L) L₂.store.now (tally_in L₂) (Ok (record { visits = visits; fault = fault; out = out }))
       unfolding judge written
-      ended_as_meant e f = record { answered = ap answer (ends_told reached e f); store_is = store_left reached; tally_is = tally_left reached }
+      ended_as_meant e f = record { answered = ap answer (ends_told L₂ reached e f); store_is = store_left L₂ reached; tally_is = tally_left L₂ reached }

@@ -1,5 +1,5 @@
 -- The answers of the shared run, free of the code: each row's refusal leaves all as it was lent, and a run that ended is the one meant.
-use mathlib.Core.Path.{◌≡◌, refl, sym, ◌∙◌, ap}
+use mathlib.Core.Path.{◌≡◌, refl, sym, ◌∙◌}
 use mathlib.Core.Bool.{Bool, true, false, not, ◌&&◌, true≢false}
 use mathlib.Core.List.{List, []}
 use Prim.Native.Nat.{ℕ, ◌*◌, ◌^◌, ◌≤◌, ◌<◌}
@@ -9,6 +9,7 @@ use lib.Dec.{eqb, ltb}
 use lib.IntN.{ℤ}
 use lib.ListN.{length}
 use borrow.Author.Tests.{not-true, eqb-true, ltb-false, lt-ltb, le-ltb}
+use Rattle.std.specs.Prelude.{Result, Err}
 use Rattle.sets.specs.declared.Set.{Set}
 use Rattle.sets.specs.Member.{bit, members}
 use Rattle.sets.proofs.Laws.{bit_past}
@@ -26,9 +27,10 @@ use Rattle.image.specs.Sets.{settings}
 use Rattle.image.specs.Accepted.{Accepted}
 use Rattle.image.proofs.Theorem.Accepted.{accepts}
 use Rattle.image.proofs.Theorem.Then.{judge_then, judge_stops, written_then, written_stops}
-use Rattle.shared.specs.declared.SharedRun.{SharedRun}
-use Rattle.shared.specs.declared.SharedRun.TheVariants.{Refused}
+use Rattle.shared.specs.declared.Ends.{Ends}
+use Rattle.shared.specs.declared.lent.Lent.{Lent}
 use Rattle.shared.specs.Lent.{Tally}
+use Rattle.shared.specs.Inner.Handed.{tally_in}
 use Rattle.shared.specs.Inner.Starting.{Sized}
 use Rattle.shared.specs.SharedRun.{SharedRuns, exact, set_rows, shared_rows}
 use Rattle.shared.specs.Inner.Carried.{Carried}
@@ -64,13 +66,6 @@ module _ (N set left : ℕ) (wide : set < 2 ^ 64) (fits : left < 2 ^ 64) (taken 
 
 -- ---- row 12: the lengths
 
-module _ {n N : ℕ} (is : n ≡ N) (xs : List ℤ) (T : Tally) where
-  pub exact_told : {r : Bool}
-      → r ≡ (eqb (length xs) (n * 16) && (eqb (length T.outcomes) n && (eqb (length T.codes) n && eqb (length T.steps) n)))
-      → r ≡ exact N xs T
-  unfolding exact
-  exact_told e = e ∙ ap (λ m. eqb (length xs) (m * 16) && (eqb (length T.outcomes) m && (eqb (length T.codes) m && eqb (length T.steps) m))) is
-
 module _ (N : ℕ) (xs : List ℤ) (T : Tally) (e : exact N xs T ≡ true) where
   lengths : (length xs ≡ N * 16) × Sized N T
   unfolding exact
@@ -81,15 +76,15 @@ module _ (N : ℕ) (xs : List ℤ) (T : Tally) (e : exact N xs T ≡ true) where
       (eqb-true _ _ p.0, record { outcomes_length = eqb-true _ _ q.0; codes_length = eqb-true _ _ r.0; steps_length = eqb-true _ _ r.1 })
 
 -- what is known when every test is passed
-pub carried : {l : Bytes} {shape : Shape} {set : Set} {budget : ℕ} {xs : List ℤ} {T : Tally} → Accepted l → shape ≡ shape_of l
-    → beyond (settings l) set.bits ≡ false → budget ≤ 100000 → exact (settings l) xs T ≡ true → Carried l shape set budget xs T
-carried {l} {set = set} {xs = xs} {T = T} acc shape_is e h g = record {
+pub carried : {l : Bytes} {shape : Shape} {set : Set} {budget : ℕ} (L : Lent) → Accepted l → shape ≡ shape_of l
+    → beyond (settings l) set.bits ≡ false → budget ≤ 100000 → exact (settings l) L.store.now (tally_in L) ≡ true → Carried l shape set budget L
+carried {l} {set = set} L acc shape_is e h g = record {
   accepted = acc;
   shape_is = shape_is;
   below = not_beyond (settings l) set.bits e;
   allowed = h;
-  store_length = (lengths (settings l) xs T g).0;
-  sized = (lengths (settings l) xs T g).1;
+  store_length = (lengths (settings l) L.store.now (tally_in L) g).0;
+  sized = (lengths (settings l) L.store.now (tally_in L) g).1;
 }
 
 -- ---- tests 9, 10 and 12
@@ -98,25 +93,25 @@ module _ (l : Bytes) (set budget : ℕ) (xs : List ℤ) (T : Tally) where
   abbrev later : List Row
   later = set_rows l set budget xs T
 
-  pub set_beyond : beyond (settings l) set ≡ true → SharedRuns later l set budget xs T xs T (Refused SetBeyond)
+  pub set_beyond : beyond (settings l) set ≡ true → SharedRuns later l set budget xs T xs T (Err SetBeyond)
   unfolding set_rows judge written
   set_beyond e = record { answered = rw e; store_is = rw e; tally_is = rw e }
 
   module _ (e : beyond (settings l) set ≡ false) where
-    pub over_budget : 100000 < budget → SharedRuns later l set budget xs T xs T (Refused BudgetOver)
+    pub over_budget : 100000 < budget → SharedRuns later l set budget xs T xs T (Err BudgetOver)
     unfolding set_rows judge written
     over_budget h =
         let f = lt-ltb 100000 budget h in
         record { answered = rw (e, f); store_is = rw (e, f); tally_is = rw (e, f) }
 
     module _ (h : budget ≤ 100000) where
-      pub wrong_length : exact (settings l) xs T ≡ false → SharedRuns later l set budget xs T xs T (Refused LentWrong)
+      pub wrong_length : exact (settings l) xs T ≡ false → SharedRuns later l set budget xs T xs T (Err LentWrong)
       unfolding set_rows judge written
       wrong_length g =
           let f = le-ltb 100000 budget h in
           record { answered = rw (e, f, g); store_is = rw (e, f, g); tally_is = rw (e, f, g) }
 
-      pub all_passed : exact (settings l) xs T ≡ true → {xs' : List ℤ} {T' : Tally} {r : SharedRun}
+      pub all_passed : exact (settings l) xs T ≡ true → {xs' : List ℤ} {T' : Tally} {r : Result Ends Refusal}
           → SharedRuns [] l set budget xs T xs' T' r → SharedRuns later l set budget xs T xs' T' r
       unfolding set_rows judge written
       all_passed g runs =
@@ -130,7 +125,7 @@ module _ (l : Bytes) (set budget : ℕ) (xs : List ℤ) (T : Tally) where
   -- ---- tests 1 to 8 before them
 
   pub refused_first : (r : Refusal) → refused (number_of r) (place_of r) ≡ judge (check_rows l) (shape_of l)
-      → SharedRuns (shared_rows l set budget xs T) l set budget xs T xs T (Refused r)
+      → SharedRuns (shared_rows l set budget xs T) l set budget xs T xs T (Err r)
   unfolding shared_rows
   refused_first r e = record {
     answered = sym (judge_stops (shape_of l) (check_rows l) _ _ _ _ (sym e));
@@ -138,7 +133,7 @@ module _ (l : Bytes) (set budget : ℕ) (xs : List ℤ) (T : Tally) where
     tally_is = sym (written_stops (shape_of l) (check_rows l) _ _ _ _ _ (sym e));
   }
 
-  pub goes_on : Accepted l → {xs' : List ℤ} {T' : Tally} {r : SharedRun}
+  pub goes_on : Accepted l → {xs' : List ℤ} {T' : Tally} {r : Result Ends Refusal}
       → SharedRuns later l set budget xs T xs' T' r → SharedRuns (shared_rows l set budget xs T) l set budget xs T xs' T' r
   unfolding shared_rows
   goes_on acc runs = record {

@@ -2,10 +2,9 @@
 use mathlib.Core.Path.{◌≡◌, refl, sym, ◌∙◌, ap, subst, fun_ext}
 use Prim.Native.Nat.{ℕ, zero, suc, ◌*◌, ◌≤◌, ◌<◌}
 use mathlib.Core.Bool.{Bool, true, false, cond}
-use mathlib.Core.List.{List}
 use native.Mathlib.Omega.{arith}
 use native.Mathlib.Nat.{le_refl, le_trans, mul-le-mul, suc-mul}
-use lib.IntN.{ℤ}
+use lib.ListN.{length}
 use Rattle.sets.specs.declared.Set.{Set}
 use Rattle.sets.specs.Member.{bit}
 use Rattle.imp.specs.Condition.{Condition}
@@ -20,12 +19,13 @@ use Rattle.imp.proofs.Theorem.Begin.{enter_steps}
 use Rattle.imp.proofs.Theorem.Bounds.{bounded}
 use Rattle.imp.proofs.Theorem.Range.{run_steps}
 use Rattle.imp.proofs.Theorem.WhileShared.{shared_grows}
-use Rattle.image.specs.Bytes.{Bytes}
 use Rattle.plain.specs.Inner.Progress.{state_of}
+use Rattle.shared.specs.declared.lent.Lent.{Lent}
 use Rattle.shared.specs.declared.plan.Plan.{Plan}
 use Rattle.shared.specs.declared.turn.Turn.{Turn}
-use Rattle.shared.specs.Lent.{Tally, progress}
-use Rattle.shared.specs.Inner.Lent.{Lent, own, as_shared}
+use Rattle.shared.specs.Lent.{progress}
+use Rattle.shared.specs.Inner.Lent.{Measured, own, as_shared}
+use Rattle.shared.specs.Inner.Handed.{tally_in, state_in}
 use Rattle.shared.specs.Inner.Beginning.{BeginningFor, BegunFor}
 use Rattle.shared.specs.Inner.Sharing.{Within, Sharing, Shares}
 use Rattle.shared.proofs.Begun.{begun_at}
@@ -79,25 +79,19 @@ at_most true k e = omega (arith, e)
 at_most false k e = omega (arith, e)
 
 -- the same run, its state said otherwise
-pub reaching : {N v : ℕ} {xs : List ℤ} {T : Tally} {Σ Σ' : Shared} → Σ ≡ Σ' → Shares N Σ v xs T → Shares N Σ' v xs T
+pub reaching : {N v : ℕ} {L : Lent} {Σ Σ' : Shared} → Σ ≡ Σ' → Shares N Σ v L → Shares N Σ' v L
 reaching e h = record { reaches = h.reaches ∙ e; lent = h.lent }
-
--- one run after another
-pub then_shares : {N v v' : ℕ} {xs xs' : List ℤ} {T T' : Tally} {Σ : Shared} (f : Shared → Shared) → Shares N Σ v xs T → Shares N (f (as_shared xs T v)) v' xs' T'
-    → Shares N (f Σ) v' xs' T'
-then_shares f first next = record { reaches = next.reaches ∙ ap f first.reaches; lent = next.lent }
 
 -- ---- what is asked for goes on
 
-module _ {l : Bytes} {plan : Plan} {sets : List ℕ} {rem : ℕ} {on : Set} {visits : ℕ} {xs : List ℤ} {T : Tally} (h : Sharing l plan sets rem on visits xs T) where
+module _ (plan : Plan) (turn : Turn) (L : Lent) (h : Sharing plan turn L) where
   abbrev here : Shared
-  here = as_shared xs T visits
+  here = state_in L turn.visits
 
-  pub goes_on : {visits' : ℕ} {xs' : List ℤ} {T' : Tally} → Later plan.settings plan.budget here (as_shared xs' T' visits')
-      → Lent plan.settings xs' T' → Sharing l plan sets rem on visits' xs' T'
+  pub goes_on : (visits : ℕ) (L' : Lent) → Later plan.settings plan.budget here (state_in L' visits)
+      → Measured plan.settings L'.store.now (tally_in L') → Sharing plan (record turn { visits = visits }) L'
   unfolding as_shared own state_of
-  goes_on later lent = record {
-    prepared = h.prepared;
+  goes_on visits L' later lent = record {
     below = h.below;
     remaining = λ s e. omega (arith, h.remaining s e, later.no_fewer s (h.below s e));
     lent = lent;
@@ -105,9 +99,8 @@ module _ {l : Bytes} {plan : Plan} {sets : List ℕ} {rem : ℕ} {on : Set} {vis
   }
 
   -- for fewer settings
-  pub for_fewer : (on' : Set) → ((s : ℕ) → bit on'.bits s ≡ true → bit on.bits s ≡ true) → Sharing l plan sets rem on' visits xs T
-  for_fewer on' fewer = record {
-    prepared = h.prepared;
+  pub for_fewer : (on : Set) → ((s : ℕ) → bit on.bits s ≡ true → bit turn.on.bits s ≡ true) → Sharing plan (record turn { on = on }) L
+  for_fewer on fewer = record {
     below = λ s e. h.below s (fewer s e);
     remaining = λ s e. h.remaining s (fewer s e);
     lent = h.lent;
@@ -115,47 +108,45 @@ module _ {l : Bytes} {plan : Plan} {sets : List ℕ} {rem : ℕ} {on : Set} {vis
   }
 
   -- after a run, whoever it was for
-  pub after_run : (t : Statement Condition) (S : Settings) {visits' : ℕ} {xs' : List ℤ} {T' : Tally}
-      → Shares plan.settings (shared plan.settings plan.budget t S here) visits' xs' T' → Sharing l plan sets rem on visits' xs' T'
-  after_run t S r =
-      goes_on (subst (Later plan.settings plan.budget here) (sym r.reaches) (later_run plan.settings plan.budget t S here)) r.lent
+  pub after_run : (t : Statement Condition) (S : Settings) (visits : ℕ) (L' : Lent)
+      → Shares plan.settings (shared plan.settings plan.budget t S here) visits L' → Sharing plan (record turn { visits = visits }) L'
+  after_run t S visits L' r =
+      goes_on visits L' (subst (Later plan.settings plan.budget here) (sym r.reaches) (later_run plan.settings plan.budget t S here)) r.lent
 
   -- a beginning can be made: the visits so far are few
-  pub can_begin : BeginningFor plan.settings plan.budget on rem visits T
+  pub can_begin : BeginningFor plan turn L
   unfolding as_shared own state_of
   can_begin = record {
-    few = h.prepared.few;
     below = h.below;
     remaining = h.remaining;
     visits_few = le_trans h.within.visits_within
-        (le_trans (total_most plan.settings (steps_at here) plan.budget h.within.steps_within) (mul-le-mul h.prepared.few h.prepared.allowed));
+        (le_trans (total_most plan.settings (steps_at here) plan.budget h.within.steps_within) (mul-le-mul plan.prepared.few plan.prepared.allowed));
     tallied = h.lent.tallied;
   }
 
   -- and who is left has one less of its budget to go
-  module _ {T' : Tally} {r : Turn} (begun : BegunFor plan.settings plan.budget on rem visits T T' r) where
-    was : (s : ℕ) → bit r.on.bits s ≡ true → (bit on.bits s ≡ true) × (ready plan.budget (own xs T s) ≡ true)
+  module _ {L' : Lent} {r : Turn} (begun : BegunFor plan turn L L' r) where
+    was : (s : ℕ) → bit r.on.bits s ≡ true → (bit turn.on.bits s ≡ true) × (ready plan.budget (own L.store.now (tally_in L) s) ≡ true)
     unfolding as_shared where_true
-    was s e = and_true (bit on.bits s) (ready plan.budget (own xs T s)) (sym (ap (λ f. f s) (begun.left_is xs)) ∙ e)
+    was s e = and_true (bit turn.on.bits s) (ready plan.budget (own L.store.now (tally_in L) s)) (sym (ap (λ f. f s) begun.left_is) ∙ e)
 
-    one_more : (s : ℕ) → bit r.on.bits s ≡ true → (progress T' s).steps ≡ suc (progress T s).steps
+    one_more : (s : ℕ) → bit r.on.bits s ≡ true → (progress (tally_in L') s).steps ≡ suc (progress (tally_in L) s).steps
     unfolding as_shared own state_of
     one_more s e =
-        let entered : (shared plan.settings plan.budget skip (bit on.bits) here).at s ≡ enter plan.budget (own xs T s) =
-        rw (was s e).0 at (begun_at plan.settings plan.budget (bit on.bits) here s) in
-        ap (λ Σ. (Σ.at s).steps) (begun.reaches xs) ∙ ap (λ σ. σ.steps) entered ∙ enter_steps plan.budget (own xs T s) (was s e).1
+        let entered : (shared plan.settings plan.budget skip (bit turn.on.bits) here).at s ≡ enter plan.budget (own L.store.now (tally_in L) s) =
+        rw (was s e).0 at (begun_at plan.settings plan.budget (bit turn.on.bits) here s) in
+        ap (λ Σ. (Σ.at s).steps) begun.reaches ∙ ap (λ σ. σ.steps) entered ∙ enter_steps plan.budget (own L.store.now (tally_in L) s) (was s e).1
 
-    pub one_less : (s : ℕ) → bit r.on.bits s ≡ true → suc r.rem ≡ rem
+    pub one_less : (s : ℕ) → bit r.on.bits s ≡ true → suc r.rem ≡ turn.rem
     one_less s e = sym (rw (any_has plan.settings (bit r.on.bits) s (h.below s (was s e).0) e) refl) ∙ begun.rem_is
 
-    pub begun_on : Sharing l plan sets r.rem r.on r.visits xs T'
+    pub begun_on : Sharing plan r L'
     begun_on = record {
-      prepared = h.prepared;
       below = λ s e. h.below s (was s e).0;
       remaining = λ s e. omega (arith, h.remaining s (was s e).0, one_more s e, one_less s e);
-      lent = record { store_length = h.lent.store_length; tallied = begun.tallied };
-      within = rw (begun.reaches xs) ((later_run plan.settings plan.budget skip (bit on.bits) here).keeps h.within);
+      lent = record { store_length = ap length begun.store_is ∙ h.lent.store_length; tallied = begun.tallied };
+      within = rw begun.reaches ((later_run plan.settings plan.budget skip (bit turn.on.bits) here).keeps h.within);
     }
 
-    pub no_more : r.rem ≤ rem
+    pub no_more : r.rem ≤ turn.rem
     no_more = at_most (any plan.settings (bit r.on.bits)) r.rem begun.rem_is

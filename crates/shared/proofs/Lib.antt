@@ -5,7 +5,6 @@ pub mod Found
 pub mod SetOf
 pub mod Tallies
 pub mod Parts
-pub mod Own
 pub mod Beginning
 pub mod Acts
 pub mod Begun
@@ -16,7 +15,6 @@ pub mod Parting
 pub mod Statements
 pub mod Loops
 pub mod Tries
-pub mod Made
 pub mod Starting
 pub mod Result
 pub mod Carrying

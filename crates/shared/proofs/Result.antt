@@ -11,8 +11,10 @@ use Rattle.sets.specs.declared.Set.{Set}
 use Rattle.imp.specs.State.{outcome_number, code}
 use Rattle.imp.specs.Shared.{Shared}
 use Rattle.plain.specs.Inner.Progress.{state_of}
+use Rattle.shared.specs.declared.lent.Lent.{Lent}
 use Rattle.shared.specs.Lent.{Tally, tally, progress, part}
-use Rattle.shared.specs.Inner.Lent.{Lent, own, as_shared}
+use Rattle.shared.specs.Inner.Lent.{Measured, own, as_shared}
+use Rattle.shared.specs.Inner.Handed.{tally_in}
 use Rattle.shared.specs.Inner.Sharing.{Shares}
 use Rattle.shared.specs.SharedRun.{each, numbers_of, tally_of, set_of, ends_of}
 
@@ -26,7 +28,7 @@ each_take l d f e (suc n) h =
 each_is : {A : Type 0} {N : ℕ} (l : List A) (d : A) (f : ℕ → A) → length l ≡ N → ((s : ℕ) → f s ≡ get_or l s d) → l ≡ each N f
 each_is {N = N} l d f h e = sym (each_take l d f e N (omega (arith, h)) ∙ take_all N l (omega (arith, h)))
 
-module _ (N : ℕ) (xs : List ℤ) (T : Tally) (visits : ℕ) (h : Lent N xs T) where
+module _ (N : ℕ) (xs : List ℤ) (T : Tally) (visits : ℕ) (h : Measured N xs T) where
   abbrev here : Shared
   here = as_shared xs T visits
 
@@ -74,14 +76,14 @@ module _ (N : ℕ) (xs : List ℤ) (T : Tally) (visits : ℕ) (h : Lent N xs T) 
       λ i. record { visits = visits; fault = record { bits = p i }; out = record { bits = q i } }
 
 -- the state that is reached
-module _ {N : ℕ} {reached : Shared} {visits : ℕ} {xs : List ℤ} {T : Tally} (h : Shares N reached visits xs T) where
-  pub store_left : xs ≡ numbers_of N reached
-  store_left = numbers_are N xs T visits h.lent ∙ ap (numbers_of N) h.reaches
+module _ {N : ℕ} {reached : Shared} {visits : ℕ} (L : Lent) (h : Shares N reached visits L) where
+  pub store_left : L.store.now ≡ numbers_of N reached
+  store_left = numbers_are N L.store.now (tally_in L) visits h.lent ∙ ap (numbers_of N) h.reaches
 
-  pub tally_left : T ≡ tally_of N reached
-  tally_left = tally_are N xs T visits h.lent ∙ ap (tally_of N) h.reaches
+  pub tally_left : tally_in L ≡ tally_of N reached
+  tally_left = tally_are N L.store.now (tally_in L) visits h.lent ∙ ap (tally_of N) h.reaches
 
-  pub ends_told : {fault out : Set} → fault.bits ≡ set_of (length T.outcomes) (λ s. eqb (get_or T.outcomes s 0) 2)
-      → out.bits ≡ set_of (length T.outcomes) (λ s. eqb (get_or T.outcomes s 0) 3)
+  pub ends_told : {fault out : Set} → fault.bits ≡ set_of (length L.outcomes.now) (λ s. eqb (get_or L.outcomes.now s 0) 2)
+      → out.bits ≡ set_of (length L.outcomes.now) (λ s. eqb (get_or L.outcomes.now s 0) 3)
       → record { visits = visits; fault = fault; out = out } ≡ ends_of N reached
-  ends_told {fault} {out} e f = ends_are N xs T visits h.lent fault out e f ∙ ap (ends_of N) h.reaches
+  ends_told {fault} {out} e f = ends_are N L.store.now (tally_in L) visits h.lent fault out e f ∙ ap (ends_of N) h.reaches

@@ -1,118 +1,79 @@
--- Where a shared run starts: before turn k the settings below k have their first progress, and in the end every setting is where the meaning starts.
+-- Where a shared run starts: with the first outcomes, and with zeros for codes and steps, every setting is where the meaning starts.
 use mathlib.Core.Path.{◌≡◌, refl, sym, ◌∙◌, ap, subst, fun_ext}
 use mathlib.Core.Bool.{Bool, true, false, cond}
-use Prim.Native.Nat.{ℕ, suc, ◌<◌}
+use Prim.Native.Nat.{ℕ, ◌<◌}
 use native.Mathlib.Omega.{arith}
-use native.Mathlib.Decide.{dec_lt, ℕ_discrete}
+use native.Mathlib.Decide.{dec_lt}
 use lib.IntN.{pos}
-use lib.ListN.{length-set, get_or-eq_default}
-use lib.Seq.{get_or-set_same, get_or-set_other}
+use lib.ListN.{length, get_or, replicate, length-replicate, get_or-eq_default}
+use Rattle.std.proofs.lemmas.List.{get_or-replicate}
 use Rattle.sets.specs.declared.Set.{Set}
 use Rattle.sets.specs.Member.{bit}
 use Rattle.imp.specs.State.{Numbers, outcome_number, code, fresh, untouched}
 use Rattle.imp.specs.Shared.{start, Below}
 use Rattle.plain.specs.declared.progress.Progress.{Progress}
 use Rattle.plain.specs.Inner.Progress.{outcome_from, state_of, Proper}
-use Rattle.shared.specs.Lent.{Tally, progress, part}
-use Rattle.shared.specs.Inner.Lent.{put, own, as_shared}
-use Rattle.shared.specs.Inner.Starting.{Sized, first_progress, Starts}
+use Rattle.shared.specs.declared.lent.Lent.{Lent}
+use Rattle.shared.specs.Lent.{progress, part}
+use Rattle.shared.specs.Inner.Lent.{own, as_shared}
+use Rattle.shared.specs.Inner.Handed.{tally_in}
+use Rattle.shared.specs.Inner.Starting.{Starts}
 
--- one setting is put at its first progress
-pub first_put : (set : Set) (s : ℕ) (T : Tally) {o : ℕ} {T'' : Tally} → o ≡ cond (bit set.bits s) 1 0
-    → T'' ≡ put s (record { outcome = o; code = pos 0; steps = 0 }) T → T'' ≡ put s (first_progress set s) T
-unfolding first_progress
-first_put set s T e f = f ∙ ap (λ o. put s (record { outcome = o; code = pos 0; steps = 0 }) T) e
+-- a first progress, of a setting of the set or of another
+abbrev first : Bool → Progress
+first u = record { outcome = cond u 1 0; code = pos 0; steps = 0 }
 
--- the settings below k have their first progress
-pub record StartedBelow (N : ℕ) (set : Set) (k : ℕ) (T : Tally) : Type 0 where
-  pub sized : Sized N T
-  pub started : (t : ℕ) → t < k → progress T t ≡ first_progress set t
-
-pub none_started : {N : ℕ} {set : Set} {T : Tally} → Sized N T → StartedBelow N set 0 T
-none_started h = record { sized = h; started = λ t below. absurd (omega arith) }
-
--- setting s has p, and the others are as they were
-module _ {N : ℕ} {T : Tally} (h : Sized N T) (s : ℕ) (p : Progress) where
-  put_sized : Sized N (put s p T)
-  unfolding put
-  put_sized = record {
-    outcomes_length = length-set T.outcomes s p.outcome ∙ h.outcomes_length;
-    codes_length = length-set T.codes s p.code ∙ h.codes_length;
-    steps_length = length-set T.steps s p.steps ∙ h.steps_length;
-  }
-
-  put_here : s < N → progress (put s p T) s ≡ p
-  unfolding progress put
-  put_here below =
-      let o = get_or-set_same T.outcomes s p.outcome 0 (omega (arith, h.outcomes_length)) in
-      let c = get_or-set_same T.codes s p.code (pos 0) (omega (arith, h.codes_length)) in
-      let n = get_or-set_same T.steps s p.steps 0 (omega (arith, h.steps_length)) in
-      λ i. record { outcome = o i; code = c i; steps = n i }
-
-  put_elsewhere : (t : ℕ) → (t ≡ s → ⊥) → progress (put s p T) t ≡ progress T t
-  unfolding progress put
-  put_elsewhere t e =
-      let o = get_or-set_other T.outcomes s t p.outcome 0 e in
-      let c = get_or-set_other T.codes s t p.code (pos 0) e in
-      let n = get_or-set_other T.steps s t p.steps 0 e in
-      λ i. record { outcome = o i; code = c i; steps = n i }
-
-pub one_more : {N : ℕ} {set : Set} {k : ℕ} {T T'' : Tally} → StartedBelow N set k T → k < N
-    → T'' ≡ put k (first_progress set k) T → StartedBelow N set (suc k) T''
-one_more {N} {set} {k} {T} h below e =
-    subst (StartedBelow N set (suc k)) (sym e) (record { sized = put_sized h.sized k (first_progress set k); started = λ t u. go t u (ℕ_discrete t k) })
-  where
-    go : (t : ℕ) → t < suc k → Dec (t ≡ k) → progress (put k (first_progress set k) T) t ≡ first_progress set t
-    go t u (yes p) = rw p (put_here h.sized k (first_progress set k) below)
-    go t u (no p) = put_elsewhere h.sized k (first_progress set k) t p ∙ h.started t (omega arith)
-
--- ---- all of them
-
--- beyond the lists there is nothing to read, and no setting of the set
-nothing_there : {N : ℕ} {T : Tally} (set : Set) → Sized N T → Below N (bit set.bits) → (t : ℕ) → (t < N → ⊥) → progress T t ≡ first_progress set t
-unfolding progress first_progress
-nothing_there {N} {T} set h below t past = go (bit set.bits t) refl
-  where
-    read : progress T t ≡ record { outcome = 0; code = pos 0; steps = 0 }
-    read =
-        let o = get_or-eq_default T.outcomes 0 {n = t} (omega (arith, h.outcomes_length, past)) in
-        let c = get_or-eq_default T.codes (pos 0) {n = t} (omega (arith, h.codes_length, past)) in
-        let n = get_or-eq_default T.steps 0 {n = t} (omega (arith, h.steps_length, past)) in
-        λ i. record { outcome = o i; code = c i; steps = n i }
-
-    go : (u : Bool) → bit set.bits t ≡ u → progress T t ≡ first_progress set t
-    go true e = absurd (past (below t e))
-    go false e = read ∙ ap (λ u. record { outcome = cond u 1 0; code = pos 0; steps = 0 }) (sym e)
-
--- a first progress is a fresh setting's or an untouched one's
-first_proper : (u : Bool) → Proper (cond u 1 0) (pos 0)
+-- it is a fresh setting's or an untouched one's
+first_proper : (u : Bool) → Proper (first u).outcome (first u).code
 unfolding outcome_from outcome_number code
 first_proper true = record { outcome_is = refl; code_is = refl }
 first_proper false = record { outcome_is = refl; code_is = refl }
 
-first_state : (u : Bool) (ns : Numbers) → state_of (record { outcome = cond u 1 0; code = pos 0; steps = 0 }) ns ≡ cond u (fresh ns) (untouched ns)
+first_state : (u : Bool) (ns : Numbers) → state_of (first u) ns ≡ cond u (fresh ns) (untouched ns)
 unfolding state_of outcome_from fresh untouched
 first_state true ns = refl
 first_state false ns = refl
 
-module _ {N : ℕ} {set : Set} {T : Tally} (h : StartedBelow N set N T) (below : Below N (bit set.bits)) where
-  first : (t : ℕ) → progress T t ≡ first_progress set t
-  first t = go (dec_lt t N)
-    where
-      go : Dec (t < N) → progress T t ≡ first_progress set t
-      go (yes p) = h.started t p
-      go (no p) = nothing_there set h.sized below t p
+-- of a list of one number that number is read, also past its end
+only : {A : Type 0} (n t : ℕ) (a : A) → get_or (replicate n a) t a ≡ a
+only n t a = go (dec_lt t n)
+  where
+    go : Dec (t < n) → get_or (replicate n a) t a ≡ a
+    go (yes h) = get_or-replicate n t a a h
+    go (no h) = get_or-eq_default (replicate n a) a {n = t} (omega (arith, h, length-replicate n a))
 
-  pub all_started : Starts N set T
-  unfolding as_shared own start first_progress
+module _ {N : ℕ} (set : Set) (L L' : Lent) (store_is : L'.store.now ≡ L.store.now) (places : length L'.outcomes.now ≡ N)
+    (codes_are : L'.codes.now ≡ replicate N (pos 0)) (steps_are : L'.steps.now ≡ replicate N 0)
+    (below : Below N (bit set.bits)) (each : (t : ℕ) → t < N → get_or L'.outcomes.now t 0 ≡ cond (bit set.bits t) 1 0) where
+  -- past the end there is no outcome, and no setting of the set
+  outcome_at : (t : ℕ) → get_or L'.outcomes.now t 0 ≡ cond (bit set.bits t) 1 0
+  outcome_at t = go (dec_lt t N) (bit set.bits t) refl
+    where
+      go : Dec (t < N) → (u : Bool) → bit set.bits t ≡ u → get_or L'.outcomes.now t 0 ≡ cond (bit set.bits t) 1 0
+      go (yes h) u e = each t h
+      go (no h) true e = absurd (h (below t e))
+      go (no h) false e = get_or-eq_default L'.outcomes.now 0 {n = t} (omega (arith, h, places)) ∙ rw e refl
+
+  begins : (t : ℕ) → progress (tally_in L') t ≡ first (bit set.bits t)
+  unfolding progress
+  begins t =
+      let o = outcome_at t in
+      let c = ap (λ xs. get_or xs t (pos 0)) codes_are ∙ only N t (pos 0) in
+      let n = ap (λ xs. get_or xs t 0) steps_are ∙ only N t 0 in
+      λ i. record { outcome = o i; code = c i; steps = n i }
+
+  pub all_started : Starts N set L L'
+  unfolding as_shared own start
   all_started = record {
-    starts = λ xs.
-        ap (λ f. record { at = f; visits = 0 })
-        (fun_ext λ s. ap (λ p. state_of p (part xs s)) (first s) ∙ first_state (bit set.bits s) (part xs s));
+    starts =
+        ap (λ xs. as_shared xs (tally_in L') 0) store_is
+        ∙ ap (λ f. record { at = f; visits = 0 })
+        (fun_ext λ s. ap (λ p. state_of p (part L.store.now s)) (begins s) ∙ first_state (bit set.bits s) (part L.store.now s));
+    store_is = store_is;
     tallied = record {
-      outcomes_length = h.sized.outcomes_length;
-      codes_length = h.sized.codes_length;
-      steps_length = h.sized.steps_length;
-      proper = λ s. subst (λ p. Proper p.outcome p.code) (sym (first s)) (first_proper (bit set.bits s));
+      outcomes_length = places;
+      codes_length = ap length codes_are ∙ length-replicate N (pos 0);
+      steps_length = ap length steps_are ∙ length-replicate N 0;
+      proper = λ s. subst (λ p. Proper p.outcome p.code) (sym (begins s)) (first_proper (bit set.bits s));
     };
   }

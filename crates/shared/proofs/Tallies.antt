@@ -22,10 +22,6 @@ three o c n = record { outcome = o; code = c; steps = n }
 ap₃ : (o o' : ℕ) (c c' : ℤ) (n n' : ℕ) → o ≡ o' → c ≡ c' → n ≡ n' → three o c n ≡ three o' c' n'
 ap₃ o o' c c' n n' e f g = rw (e, f, g) refl
 
--- what is read of a tally is proper
-pub proper_at : {N : ℕ} {T : Tally} {q : Progress} → Tallied N T → (s : ℕ) → q ≡ progress T s → Proper q.outcome q.code
-proper_at h s e = subst (λ q. Proper q.outcome q.code) (sym e) (h.proper s)
-
 module _ {N : ℕ} {T : Tally} (h : Tallied N T) {s : ℕ} (below : s < N) (p : Progress) where
   put_same : progress (put s p T) s ≡ p
   unfolding progress put

@@ -3,7 +3,6 @@ use mathlib.Core.Path.{◌≡◌, refl, sym, ◌∙◌, ap, fun_ext}
 use Prim.Native.Nat.{ℕ, ◌<◌}
 use mathlib.Core.Bool.{Bool, true, false, not, ◌&&◌}
 use mathlib.Core.List.{List}
-use lib.IntN.{ℤ}
 use lib.ListN.{get_or}
 use borrow.Author.Tests.{eq-eqb, ne_eqb, lt-ltb}
 use Rattle.sets.specs.Member.{bit}
@@ -17,25 +16,28 @@ use Rattle.image.specs.Inner.SetsOf.{SetsOf}
 use Rattle.image.specs.Tree.{condition}
 use Rattle.plain.specs.Inner.Progress.{state_of}
 use Rattle.plain.proofs.Beginning.{fault_is}
-use Rattle.shared.specs.Lent.{Tally, progress, part}
+use Rattle.shared.specs.declared.lent.Lent.{Lent}
+use Rattle.shared.specs.declared.plan.Plan.{Plan}
+use Rattle.shared.specs.Lent.{progress}
 use Rattle.shared.specs.Inner.Lent.{own, as_shared}
-use Rattle.shared.specs.Inner.Asking.{asking}
+use Rattle.shared.specs.Inner.Handed.{tally_in, state_in}
+use Rattle.shared.specs.Inner.Asking.{asking, answers}
 use Rattle.shared.specs.Inner.Sharing.{tested}
 
 -- the answers of all settings of a set
-abbrev pub Answers : Bytes → Node → Settings → List ℤ → List ℕ → ℕ → Type 0
-Answers l ν S xs os found = (t : ℕ) → bit found t ≡ (S t && asking l ν t (get_or os t 0) (part xs t))
+abbrev pub Answers : Plan → Node → Settings → Lent → ℕ → Type 0
+Answers plan ν S L found = (t : ℕ) → bit found t ≡ (S t && answers plan ν L t)
 
-module _ (l : Bytes) (ν : Node) (S : Settings) (xs : List ℤ) (T : Tally) (visits found : ℕ) (h : Answers l ν S xs T.outcomes found) where
+module _ (plan : Plan) (ν : Node) (S : Settings) (L : Lent) (visits found : ℕ) (h : Answers plan ν S L found) where
   -- "the settings where the test is true"
-  pub where_tested : (ν.kind ≡ 22 → ⊥) → bit found ≡ where_true (tested l ν) S (as_shared xs T visits)
+  pub where_tested : (ν.kind ≡ 22 → ⊥) → bit found ≡ where_true (tested plan ν) S (state_in L visits)
   unfolding asking where_true as_shared own state_of
   where_tested other = fun_ext λ t. rw (ne_eqb ν.kind 22 other) at (h t)
 
   -- "the settings in which its own try's body ended in fault"
-  pub where_caught : ν.kind ≡ 22 → bit found ≡ where_true (λ s σ. in_fault σ.outcome) S (as_shared xs T visits)
+  pub where_caught : ν.kind ≡ 22 → bit found ≡ where_true (λ s σ. in_fault σ.outcome) S (state_in L visits)
   unfolding asking where_true as_shared own state_of progress
-  where_caught e = fun_ext λ t. rw (eq-eqb ν.kind 22 e) at (h t) ∙ ap (λ u. S t && u) (sym (fault_is (progress T t).outcome (progress T t).code))
+  where_caught e = fun_ext λ t. rw (eq-eqb ν.kind 22 e) at (h t) ∙ ap (λ u. S t && u) (sym (fault_is (progress (tally_in L) t).outcome (progress (tally_in L) t).code))
 
 -- "the rest"
 rest : (u v w : Bool) → v ≡ u && w → u && not v ≡ u && not w

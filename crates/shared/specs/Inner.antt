@@ -1,5 +1,6 @@
 -- What the functions inside ask of each other: no part of the standard.
 pub mod Lent
+pub mod Handed
 pub mod Each
 pub mod Prepared
 pub mod Beginning

@@ -1,17 +1,16 @@
 -- What the shared run answers and what it leaves in all that is lent (document 01, "What is lent and what comes back", and rows 9, 10 and 12).
-use Rattle.std.specs.Prelude.{◌≡◌, ℕ, zero, suc, ◌+◌, ◌*◌, ◌^◌, Bool, not, ◌&&◌, cond, List, [], ◌∷◌, ◌++◌, eqb, ℤ, length}
+use Rattle.std.specs.Prelude.{◌≡◌, ℕ, zero, suc, ◌+◌, ◌*◌, ◌^◌, Bool, not, ◌&&◌, cond, List, [], ◌∷◌, ◌++◌, eqb, ℤ, length, Result}
 use Rattle.sets.specs.Member.{bit}
 use Rattle.imp.specs.State.{outcome_number, code}
 use Rattle.imp.specs.Shared.{Settings, Shared, shared_run, beyond}
 use Rattle.image.specs.Bytes.{Bytes}
-use Rattle.image.specs.Refusals.{number_of, place_of}
-use Rattle.image.specs.Rows.{Row, row, Answer, refused, answer, judge, written, check_rows}
+use Rattle.image.specs.Check.{answer_of}
+use Rattle.image.specs.Rows.{Row, row, judge, written, check_rows}
 use Rattle.image.specs.Sets.{settings}
 use Rattle.image.specs.Tree.{routine}
 use Rattle.plain.specs.PlainRun.{budget_row}
 use Rattle.shared.specs.declared.Ends.{Ends}
-use Rattle.shared.specs.declared.SharedRun.{SharedRun}
-use Rattle.shared.specs.declared.SharedRun.TheVariants.{Ended, Refused}
+use Rattle.image.specs.declared.refusals.Refusal.{Refusal}
 use Rattle.shared.specs.Lent.{Tally, tally, part}
 
 -- the run's meaning
@@ -58,12 +57,8 @@ set_rows l set budget xs T = row 9 (beyond (settings l) set) ∷ budget_row budg
 unfoldable pub shared_rows : Bytes → ℕ → ℕ → List ℤ → Tally → List Row
 shared_rows l set budget xs T = check_rows l ++ set_rows l set budget xs T
 
-abbrev pub shared_answer : SharedRun → Answer Ends
-shared_answer (Ended e) = answer e
-shared_answer (Refused r) = refused (number_of r) (place_of r)
-
 -- what the run answers and what it leaves, where `rows` are still to be tested
-pub record SharedRuns (rows : List Row) (l : Bytes) (set budget : ℕ) (xs : List ℤ) (T : Tally) (xs' : List ℤ) (T' : Tally) (r : SharedRun) : Type 0 where
-  pub answered : shared_answer r ≡ judge rows (ends_of (settings l) (meant l set budget xs))
+pub record SharedRuns (rows : List Row) (l : Bytes) (set budget : ℕ) (xs : List ℤ) (T : Tally) (xs' : List ℤ) (T' : Tally) (r : Result Ends Refusal) : Type 0 where
+  pub answered : answer_of r ≡ judge rows (ends_of (settings l) (meant l set budget xs))
   pub store_is : xs' ≡ written rows (numbers_of (settings l) (meant l set budget xs)) xs
   pub tally_is : T' ≡ written rows (tally_of (settings l) (meant l set budget xs)) T

@@ -1,13 +1,14 @@
 // The run over a set of settings.
 #![tactic(auto)]
 
-ghost use Rattle.std.specs.Prelude.{◌≡◌, ◌&&◌, ◌*◌, ◌≤◌, [], eqb};
+ghost use Rattle.std.specs.Prelude.{◌≡◌, ◌&&◌, ◌*◌, ◌^◌, ◌≤◌, [], eqb, Ok};
+ghost use Rattle.imp.specs.Shared.{beyond};
 ghost use Rattle.image.specs.Check.{shape_of};
 ghost use Rattle.image.specs.Sets.{settings};
 ghost use Rattle.image.specs.Accepted.{Accepted};
 ghost use Rattle.shared.specs.Lent.{tally};
-ghost use Rattle.shared.specs.declared.SharedRun.TheVariants.{Ended};
 ghost use Rattle.shared.specs.SharedRun.{SharedRuns, set_rows, shared_rows};
+ghost use Rattle.shared.specs.Inner.Handed.{tally_in, Same};
 ghost use Rattle.shared.specs.Inner.Carried.{Carried};
 
 mod act; // act.rt: what a statement does by itself in each setting
@@ -20,10 +21,11 @@ mod run; // run.rt: a statement
 mod start; // start.rt: where a run starts
 mod turn; // turn.rt: for whom a statement is run
 
-use ended::ended;
-use image::accept::{Checked, Shape, check};
+use image::accept::{Shape, check};
 use image::conditions::{all_settings, condition_sets};
 use image::refusals::Refusal;
+use image::routine::Routine;
+use lent::Lent;
 use plain::progress::{FAULT, LARGEST_BUDGET, OUT};
 use plan::Plan;
 use run::run;
@@ -39,61 +41,40 @@ pub struct Ends {
     pub out: Set,
 }
 
-// How the run ended, or the refusal.
-#[derive(Clone, Copy)]
-pub enum SharedRun {
-    Ended(Ends),
-    Refused(Refusal),
-}
-
 // The run of an image and a set that were accepted, on slices of the right lengths.
-fn run_lent(
-    image: &[u8],
-    shape: Shape,
-    set: Set,
-    budget: u32,
-    store: &mut [i32],
-    outcomes: &mut [u8],
-    codes: &mut [i32],
-    steps: &mut [u32],
-) -> Ends
-    requires { Carried image.now shape set budget store.old (tally outcomes.old codes.old steps.old) }
-    ensures { SharedRuns [] image.now set.bits budget store.old
-        (tally outcomes.old codes.old steps.old) store.new
-        (tally outcomes.new codes.new steps.new) (Ended result) }
+fn run_lent(image: &[u8], shape: Shape, set: Set, budget: u32, lent: &mut Lent<'_>) -> Ends
+    requires { Carried image.now shape set budget lent.old }
+    ensures runs { SharedRuns [] image.now set.bits budget lent.old.store.now (tally_in lent.old)
+        lent.new.store.now (tally_in lent.new) (Ok result) }
+    ensures same { Same lent.old lent.new }
 {
     let sets = condition_sets(image, shape);
-    let n = outcomes.len();
-    start_all(set, n, outcomes, codes, steps);
     let plan = Plan {
-        conditions: shape.conditions,
-        settings: n,
-        budget: budget,
+        routine: Routine::of(image, shape),
+        sets: &sets,
+        settings: lent.outcomes.len(),
+        budget,
     };
+    start_all(set, lent);
     let turn = Turn {
         on: set,
         rem: budget,
         visits: 0,
     };
-    let root = shape.nodes - 1;
-    let visits = run(
-        image, plan, &sets, root, turn, store, outcomes, codes, steps,
-    );
-    let fault = ended(FAULT, outcomes);
-    let out = ended(OUT, outcomes);
+    let visits = run(&plan, shape.nodes - 1, turn, lent);
     Ends {
-        visits: visits,
-        fault: fault,
-        out: out,
+        visits,
+        fault: lent.ended(FAULT),
+        out: lent.ended(OUT),
     }
 }
 
-// "store (16N ..), outcomes, codes or steps (N each) .. of exact length".
-fn exact(n: usize, store: usize, outcomes: usize, codes: usize, steps: usize) -> bool
-    requires { n ≤ 64 }
-    ensures { result ≡ (eqb store (n * 16) && (eqb outcomes n && (eqb codes n && eqb steps n))) }
+// "set has a setting at or above N", where N is 2^F.
+fn beyond(set: Set, options: u32) -> bool
+    requires { options ≤ 6 }
+    ensures { result ≡ beyond (2 ^ options) set.bits }
 {
-    (store == n * 16) & ((outcomes == n) & ((codes == n) & (steps == n)))
+    !set.take_away(all_settings(options)).is_empty()
 }
 
 // Tests 9, 10 and 12, and the run.
@@ -102,32 +83,23 @@ fn run_accepted(
     shape: Shape,
     set: Set,
     budget: u32,
-    store: &mut [i32],
-    outcomes: &mut [u8],
-    codes: &mut [i32],
-    steps: &mut [u32],
-) -> SharedRun
+    lent: &mut Lent<'_>,
+) -> Result<Ends, Refusal>
     requires { Accepted image.now × (shape ≡ shape_of image.now) }
-    ensures { SharedRuns
-        (set_rows image.now set.bits budget store.old
-        (tally outcomes.old codes.old steps.old)) image.now set.bits budget
-        store.old (tally outcomes.old codes.old steps.old) store.new
-        (tally outcomes.new codes.new steps.new) result }
+    ensures runs { SharedRuns (set_rows image.now set.bits budget lent.old.store.now (tally_in lent.old)) image.now
+        set.bits budget lent.old.store.now (tally_in lent.old) lent.new.store.now (tally_in lent.new) result }
+    ensures same { Same lent.old lent.new }
 {
-    let all = all_settings(shape.options);
-    let beyond = set.take_away(all);
-    if !beyond.is_empty() {
-        return SharedRun::Refused(Refusal::SetBeyond);
+    if beyond(set, shape.options) {
+        return Err(Refusal::SetBeyond);
     }
     if LARGEST_BUDGET < budget {
-        return SharedRun::Refused(Refusal::BudgetOver);
+        return Err(Refusal::BudgetOver);
     }
-    let n = 1usize << shape.options;
-    if !exact(n, store.len(), outcomes.len(), codes.len(), steps.len()) {
-        return SharedRun::Refused(Refusal::LentWrong);
+    if !lent.exact(1usize << shape.options) {
+        return Err(Refusal::LentWrong);
     }
-    let ends = run_lent(image, shape, set, budget, store, outcomes, codes, steps);
-    SharedRun::Ended(ends)
+    Ok(run_lent(image, shape, set, budget, lent))
 }
 
 // "The shared run takes the image, a set, a budget, a store of 16N numbers .. N outcomes, N codes and N step counts": refusals 1 to 8, 9, 10, 12.
@@ -139,17 +111,19 @@ pub fn shared_run(
     outcomes: &mut [u8],
     codes: &mut [i32],
     steps: &mut [u32],
-) -> SharedRun
+) -> Result<Ends, Refusal>
     ensures { SharedRuns
         (shared_rows image.now set.bits budget store.old
         (tally outcomes.old codes.old steps.old)) image.now set.bits budget
         store.old (tally outcomes.old codes.old steps.old) store.new
         (tally outcomes.new codes.new steps.new) result }
 {
-    match check(image) {
-        Checked::Refused(r) => SharedRun::Refused(r),
-        Checked::Good(shape) => {
-            run_accepted(image, shape, set, budget, store, outcomes, codes, steps)
-        }
-    }
+    let shape = check(image)?;
+    let mut lent = Lent {
+        store,
+        outcomes,
+        codes,
+        steps,
+    };
+    run_accepted(image, shape, set, budget, &mut lent)
 }

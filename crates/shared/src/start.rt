@@ -1,41 +1,23 @@
 // Where a shared run starts: "Settings outside the set get idle, 0, 0"; those of the set have nothing behind them.
-ghost use Rattle.std.specs.Prelude.{◌≡◌, cond, ◌<◌, length};
+ghost use Rattle.std.specs.Prelude.{◌≡◌, length};
 ghost use Rattle.sets.specs.Member.{bit};
 ghost use Rattle.imp.specs.Shared.{Below};
-ghost use Rattle.shared.specs.Lent.{tally};
-ghost use Rattle.shared.specs.Inner.Lent.{put};
-ghost use Rattle.shared.specs.Inner.Starting.{Sized, first_progress, Starts};
+ghost use Rattle.shared.specs.Inner.Handed.{tally_in, Same};
+ghost use Rattle.shared.specs.Inner.Starting.{Sized, Starts};
 
-use crate::lent::set_progress;
-use plain::progress::{IDLE, LIVE, Progress};
+use crate::lent::Lent;
+use plain::progress::{IDLE, LIVE};
 use sets::Set;
 
-fn first_outcome(set: Set, s: usize) -> u8
-    ensures { result ≡ cond (bit set.bits s) 1 0 }
+// All settings have their first progress.
+pub fn start_all(set: Set, lent: &mut Lent<'_>)
+    requires { Sized (length lent.old.outcomes.now) (tally_in lent.old) × Below (length lent.old.outcomes.now) (bit set.bits) }
+    ensures starts { Starts (length lent.old.outcomes.now) set lent.old lent.new }
+    ensures same { Same lent.old lent.new }
 {
-    if set.has(s as u64) { LIVE } else { IDLE }
-}
-
-// Setting s has its first progress.
-fn start_at(set: Set, s: usize, outcomes: &mut [u8], codes: &mut [i32], steps: &mut [u32])
-    requires { (s < length outcomes.old) × (s < length codes.old) × (s < length steps.old) }
-    ensures { tally outcomes.new codes.new steps.new ≡ put s (first_progress set s)
-        (tally outcomes.old codes.old steps.old) }
-{
-    let p = Progress {
-        outcome: first_outcome(set, s),
-        code: 0,
-        steps: 0,
-    };
-    set_progress(s, p, outcomes, codes, steps);
-}
-
-// All n settings have theirs.
-pub fn start_all(set: Set, n: usize, outcomes: &mut [u8], codes: &mut [i32], steps: &mut [u32])
-    requires { Sized n (tally outcomes.old codes.old steps.old) × Below n (bit set.bits) }
-    ensures { Starts n set (tally outcomes.new codes.new steps.new) }
-{
-    for s in 0..n {
-        start_at(set, s, outcomes, codes, steps);
+    lent.codes.fill(0);
+    lent.steps.fill(0);
+    for (s, outcome) in lent.outcomes.iter_mut().enumerate() {
+        *outcome = if set.has(s as u64) { LIVE } else { IDLE };
     }
 }

@@ -1,6 +1,7 @@
 // For whom a statement is run, what remains at most of the budget of each of them, and the visits so far.
-ghost use Rattle.std.specs.Prelude.{◌≡◌, not, eqb};
+ghost use Rattle.std.specs.Prelude.{◌≡◌, ◌+◌, ◌-◌, ◌<◌, ◌≤◌, cond, eqb};
 ghost use Rattle.sets.specs.Member.{members};
+ghost use Rattle.shared.specs.declared.turn.Turn.{Turn};
 
 use sets::Set;
 
@@ -11,32 +12,20 @@ pub struct Turn {
     pub visits: u32,
 }
 
-// The same for other settings.
-pub fn for_those(on: Set, turn: Turn) -> Turn
-    ensures { result ≡ record { on = on; rem = turn.rem; visits = turn.visits } }
-{
-    Turn {
-        on: on,
-        rem: turn.rem,
-        visits: turn.visits,
+impl Turn {
+    // "If any are left, that is one visit, whatever their number": and each of them has one step less to go.
+    pub fn counted(self) -> Turn
+        requires { (self.visits ≤ 6400000) × ((members self.on.bits 64 ≡ 0 → ⊥) → 0 < self.rem) }
+        ensures { result ≡ cond (eqb (members self.on.bits 64) 0) self
+            (record { on = self.on; rem = self.rem - 1; visits = self.visits + 1 }) }
+    {
+        if self.on.is_empty() {
+            return self;
+        }
+        Turn {
+            rem: self.rem - 1,
+            visits: self.visits + 1,
+            ..self
+        }
     }
-}
-
-// The same, with the visits as they now are.
-pub fn after(turn: Turn, visits: u32) -> Turn
-    ensures { result ≡ record { on = turn.on; rem = turn.rem; visits = visits } }
-{
-    let on = turn.on;
-    Turn {
-        on: on,
-        rem: turn.rem,
-        visits: visits,
-    }
-}
-
-// There is a setting to run for.
-pub fn for_some(turn: Turn) -> bool
-    ensures { result ≡ not (eqb (members turn.on.bits 64) 0) }
-{
-    !turn.on.is_empty()
 }

@@ -1,7 +1,7 @@
 // What the programs share: standard input read into a space, to its end or until that is full, and a refusal said on standard error.
 #![tactic(auto)]
 
-ghost use Rattle.std.specs.Prelude.{◌≡◌, ◌≤◌, length};
+ghost use Rattle.std.specs.Prelude.{◌≡◌, ◌≤◌, length, IfOk, IfErr};
 ghost use Rattle.image.specs.Refusals.{number_of, place_of};
 ghost use Rattle.lines.specs.Text.{refusal_line};
 ghost use Rattle.streams.specs.Streams.{most};
@@ -10,49 +10,32 @@ use image::refusals::Refusal;
 use lines::put_refusal;
 use std::io::{Read, Write};
 
-// How many bytes were read, and whether reading failed. An input that has filled its space may go on.
-#[derive(Clone, Copy)]
-pub struct Input {
-    pub bytes: usize,
-    pub failed: bool,
-}
+// How many bytes came before reading failed.
+#[derive(Clone, Copy, PartialEq, Eq)]
+pub struct Failed(pub usize);
 
-// One read: no bytes at the end of the input, and none where it failed.
-fn read_once<R: Read>(input: &mut R, part: &mut [u8]) -> Input
-    ensures { result.bytes ≤ length part.new }
+// Zeros. The `ensures` gives only how many, and no proof has to look at so many of them.
+pub fn blank<const N: usize>() -> [u8; N]
+    ensures { N ≡ length result }
 {
-    match input.read(part) {
-        Ok(bytes) => Input {
-            bytes,
-            failed: false,
-        },
-        Err(_) => Input {
-            bytes: 0,
-            failed: true,
-        },
-    }
+    [0; N]
 }
 
-// Until the input ends or `space` is full, whichever is first.
-pub fn read_input<R: Read>(input: &mut R, space: &mut [u8]) -> Input
+// Until the input ends or `space` is full, whichever is first: how many bytes came. An input that has filled its space may go on.
+pub fn read_input<R: Read>(input: &mut R, space: &mut [u8]) -> Result<usize, Failed>
     requires { length space.old ≤ most }
-    ensures { result.bytes ≤ length space.new }
+    ensures ok { IfOk result (λ n. n ≤ length space.new) }
+    ensures err { IfErr result (λ e. e.0 ≤ length space.new) }
 {
-    let mut done: usize = 0;
+    let mut done = 0;
     while done < space.len() {
-        let more = read_once(input, &mut space[done..]);
-        if more.bytes == 0 {
-            return Input {
-                bytes: done,
-                failed: more.failed,
-            };
+        match input.read(&mut space[done..]) {
+            Ok(0) => return Ok(done),
+            Ok(more) => done += more,
+            Err(_) => return Err(Failed(done)),
         }
-        done += more.bytes;
     }
-    Input {
-        bytes: done,
-        failed: false,
-    }
+    Ok(done)
 }
 
 // Writes nothing but the line of this refusal.

@@ -1,10 +1,12 @@
 -- Texts written one behind the other are one text.
 use mathlib.Core.Path.{◌≡◌, refl, sym, ◌∙◌, ap}
 use mathlib.Core.List.{List, [], ◌∷◌, ◌++◌}
-use Prim.Native.Nat.{ℕ, suc, ◌+◌, ◌<◌}
+use Prim.Native.Nat.{ℕ, ◌+◌, ◌-◌, ◌≤◌, ◌<◌}
 use native.Mathlib.Omega.{arith}
-use lib.ListN.{length, get_or, set, take, drop, length-append, length-take}
-use lib.Seq.{sets, sets-eq, length-sets, take-suc, take-append_seam}
+use lib.ListN.{length, set, take, drop, length-append}
+use lib.Seq.{sets, sets-eq, length-sets, take-append_seam}
+use borrow.Rule.Slice.PartMut.{put_mid}
+use Rattle.std.proofs.lemmas.List.{drop-drop, append_assoc}
 use Rattle.image.proofs.Stores.{sets_app}
 use Rattle.text.specs.Inner.Puts.{Puts}
 
@@ -39,14 +41,12 @@ front text out {out'} {end} p =
     ∙ ap (λ k. take k (text ++ drop (0 + length text) out)) all
     ∙ take-append_seam text (drop (0 + length text) out)
 
--- a byte more of a text
-pub one_more : (text out : List ℕ) (at i : ℕ) → i < length text → set (sets out at (take i text)) (at + i) (get_or text i 0) ≡ sets out at (take (i + 1) text)
-one_more text out at i h =
-    let long : length (take i text) ≡ i = omega (arith, length-take i text) in
-    let next : i + 1 ≡ suc i = omega arith in
-    sym (
-    ap (λ k. sets out at (take k text)) next
-    ∙ ap (sets out at) (take-suc text i 0 h)
-    ∙ sets_app (take i text) (get_or text i 0 ∷ []) out at
-    ∙ ap (λ k. set (sets out at (take i text)) (at + k) (get_or text i 0)) long
-    )
+-- a part of `out` that becomes the text
+pub part : (text out : List ℕ) (at : ℕ) → at + length text ≤ length out → {ys : List ℕ} → ys ≡ text
+    → put_mid at (at + length text - at) out ys ≡ sets out at text
+part text out at h e =
+    ap (put_mid at (at + length text - at) out) e
+    ∙ ap (λ k. take at out ++ (text ++ drop k (drop at out))) (omega arith)
+    ∙ ap (λ l. take at out ++ (text ++ l)) (drop-drop (length text) at out)
+    ∙ sym (append_assoc (take at out) text (drop (at + length text) out))
+    ∙ sym (sets-eq text out at h)

@@ -13,8 +13,7 @@ pub fn put(out: &mut [u8], at: usize, text: &[u8]) -> usize
     requires { at + length text.now ≤ length out.old }
     ensures { Puts text.now at out.old out.new result }
 {
-    for i in 0..text.len() {
-        out[at + i] = text[i];
-    }
-    at + text.len()
+    let end = at + text.len();
+    out[at..end].copy_from_slice(text);
+    end
 }

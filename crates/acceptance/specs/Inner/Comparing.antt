@@ -1,5 +1,5 @@
 -- What the program `acceptance` compares: a definition for the answer of each of its functions.
-use Rattle.std.specs.Prelude.{Bool, true, false, not, ◌&&◌, cond, List, ℕ, zero, suc, ◌+◌, ◌*◌, ◌/◌, ◌%◌, eqb, ltb, leb, ℤ, pos, negsuc, length, get_or}
+use Rattle.std.specs.Prelude.{Bool, true, false, not, ◌&&◌, cond, List, ℕ, zero, suc, ◌+◌, ◌*◌, ◌/◌, ◌%◌, eqb, ltb, leb, ℤ, pos, negsuc, length, get_or, Option, Some, None}
 use Rattle.sets.specs.Member.{bit}
 use Rattle.imp.specs.Numbers.{signed32}
 use Rattle.imp.specs.State.{Numbers}
@@ -13,8 +13,7 @@ use Rattle.shared.specs.declared.Ends.{Ends}
 use Rattle.shared.specs.Lent.{Tally, progress, part}
 use Rattle.shared.specs.SharedRun as Shared
 use Rattle.shared.specs.SharedRun.{each, numbers_of, tally_of, ends_of, shared_rows}
-use Rattle.acceptance.specs.declared.compare.Verdict.{Verdict}
-use Rattle.acceptance.specs.declared.compare.Verdict.TheVariants.{Of, Refused}
+use Rattle.acceptance.specs.declared.compare.Compared.{Compared}
 use Rattle.acceptance.specs.Condition3.{idle}
 
 -- ---- the same numbers, the same outcome, code and steps
@@ -82,11 +81,11 @@ all_hold l set budget visits xs T =
     && leb visits (total (length T.outcomes) (λ s. get_or T.steps s 0))
 
 -- by what a shared run over n settings answered and left
-abbrev pub judged : ℕ → Bytes → ℕ → ℕ → Answer Ends → List ℤ → Tally → Verdict
-judged n l set budget (answer e) xs T = Of (record { settings = n; visits = e.visits; holds = all_hold l set budget e.visits xs T })
-judged n l set budget (refused m k) xs T = Refused
+abbrev pub judged : ℕ → Bytes → ℕ → ℕ → Answer Ends → List ℤ → Tally → Option Compared
+judged n l set budget (answer e) xs T = Some (record { settings = n; visits = e.visits; holds = all_hold l set budget e.visits xs T })
+judged n l set budget (refused m k) xs T = None
 
-unfoldable pub compared : ℕ → Bytes → ℕ → ℕ → Tally → Verdict
+unfoldable pub compared : ℕ → Bytes → ℕ → ℕ → Tally → Option Compared
 compared n l set budget T =
     let xs : List ℤ = starts 0 (n * 16) in
     let rows : List Row = shared_rows l set budget xs T in

@@ -1,5 +1,5 @@
 -- What a shared run that was carried out answers: visits between each setting's steps and their sum, and the two sets by the outcomes.
-use Rattle.std.specs.Prelude.{◌≡◌, false, List, ℕ, ◌≤◌, ◌<◌, ℤ}
+use Rattle.std.specs.Prelude.{◌≡◌, false, List, ℕ, ◌≤◌, ◌<◌, ℤ, Ok}
 use Rattle.std.proofs.Math.Path.{sym, ap}
 use Rattle.std.proofs.Common.{◌∙◌, arith}
 use Rattle.std.proofs.Math.Decide.{dec_lt}
@@ -17,7 +17,6 @@ use Rattle.image.specs.Tree.{routine}
 use Rattle.plain.specs.declared.progress.Progress.{Progress}
 use Rattle.plain.specs.PlainRun.{progress_of}
 use Rattle.shared.specs.declared.Ends.{Ends}
-use Rattle.shared.specs.declared.SharedRun.TheVariants.{Ended}
 use Rattle.shared.specs.Lent.{Tally, progress, part}
 use Rattle.shared.specs.SharedRun.{meant, set_of, ends_of, shared_rows, SharedRuns}
 use Rattle.acceptance.specs.Theorem.Members.{member, no_member, no_members}
@@ -25,7 +24,7 @@ use Rattle.acceptance.specs.Theorem.Left.{total_same}
 use Rattle.acceptance.specs.Theorem.Shared.{ends_are, outside_is, progress_left, outcome_past}
 
 module _ {l : Bytes} {set budget : ℕ} {xs xs' : List ℤ} {T T' : Tally} {e : Ends}
-    (ran : SharedRuns (shared_rows l set budget xs T) l set budget xs T xs' T' (Ended e)) where
+    (ran : SharedRuns (shared_rows l set budget xs T) l set budget xs T xs' T' (Ok e)) where
   abbrev N : ℕ
   N = settings l
 

@@ -1,5 +1,5 @@
 -- What `compare` answers is what is expected: the tests of the shared run that can fail are those of the image, the set and the budget.
-use Rattle.std.specs.Prelude.{◌≡◌, List, ℕ, ◌*◌, length}
+use Rattle.std.specs.Prelude.{◌≡◌, List, ℕ, ◌*◌, length, Ok, Some, None}
 use Rattle.std.proofs.Math.Path.{refl, sym, ap}
 use Rattle.std.proofs.Common.{◌∙◌, arith}
 use Rattle.std.proofs.Math.Bool.{true, not}
@@ -11,12 +11,10 @@ use Rattle.image.specs.Sets.{settings}
 use Rattle.image.proofs.Theorem.Given.{answered, carried_out}
 use Rattle.image.proofs.Theorem.Carried.{none_each, none_both, written_new}
 use Rattle.shared.specs.declared.Ends.{Ends}
-use Rattle.shared.specs.declared.SharedRun.TheVariants as Shared
 use Rattle.shared.specs.Lent.{Tally}
 use Rattle.shared.specs.SharedRun as Sharing
 use Rattle.shared.specs.SharedRun.{numbers_of, tally_of, ends_of, exact, set_rows, shared_rows, SharedRuns}
 use Rattle.acceptance.specs.declared.compare.Compared.{Compared}
-use Rattle.acceptance.specs.declared.compare.Verdict.TheVariants.{Of, Refused}
 use Rattle.acceptance.specs.Inner.Comparing.{starts, judged, compared}
 use Rattle.acceptance.specs.Inner.Expected.{compare_rows, verdict, holding, expected}
 use Rattle.acceptance.specs.Theorem.Compared.{shared_ended}
@@ -64,10 +62,10 @@ module _ (l : Bytes) (set budget : ℕ) (T : Tally) where
       let z : ◌≡◌ {A = ℕ} 0 1 = cc in
       omega arith
 
-  carried_so : NoneFails (rows N) → Of (holding l set budget) ≡ compared N l set budget T
+  carried_so : NoneFails (rows N) → Some (holding l set budget) ≡ compared N l set budget T
   unfolding holding ends_of
   carried_so none =
-      let ran : SharedRuns (rows N) l set budget (starts 0 (N * 16)) T (numbers_of N (end N)) (tally_of N (end N)) (Shared.Ended (ends_of N (end N))) =
+      let ran : SharedRuns (rows N) l set budget (starts 0 (N * 16)) T (numbers_of N (end N)) (tally_of N (end N)) (Ok (ends_of N (end N))) =
       record {
         answered = sym ((carried_out (ends_of N (end N)) (rows N)).1 none);
         store_is = sym (written_new (rows N) (numbers_of N (end N)) (starts 0 (N * 16)) none);
@@ -75,12 +73,12 @@ module _ (l : Bytes) (set budget : ℕ) (T : Tally) where
       } in
       shared_ended N refl ran refl (all_true refl ran)
 
-  refused_so : (n : ℕ) → (NoneFails (rows n) → ⊥) → Refused ≡ compared n l set budget T
+  refused_so : (n : ℕ) → (NoneFails (rows n) → ⊥) → None ≡ compared n l set budget T
   unfolding compared
   refused_so n never = go (judge (rows n) (ends_of N (end n))) refl
     where
       go : (a : Answer Ends) → judge (rows n) (ends_of N (end n)) ≡ a
-          → Refused ≡ judged n l set budget (judge (rows n) (ends_of N (end n))) (written (rows n) (numbers_of N (end n)) (starts 0 (n * 16)))
+          → None ≡ judged n l set budget (judge (rows n) (ends_of N (end n))) (written (rows n) (numbers_of N (end n)) (starts 0 (n * 16)))
           (written (rows n) (tally_of N (end n)) T)
       go (answer e) is = absurd (never (answered _ (rows n) e is))
       go (refused k p) is = rw is refl

@@ -1,27 +1,25 @@
 -- A call and what comes back of it: its answer and what is left in all that was lent, made of the definitions that its promise cites.
 use Rattle.std.specs.Prelude.{◌≡◌, Bool, List, [], ◌∷◌, map, ℕ, zero, suc, ℤ, length}
+use Rattle.std.specs.Prelude as Std
 use Rattle.std.proofs.Common.{ap, subst, arith}
 use Rattle.std.proofs.Math.Option.{some}
 use Rattle.std.proofs.Math.ListN.{get_elem?}
+use Rattle.sets.specs.declared.Set.{Set}
 use Rattle.imp.specs.State.{Numbers}
+use Rattle.image.specs.declared.refusals.Refusal.{Refusal}
 use Rattle.image.specs.declared.accept.Shape.{Shape}
-use Rattle.image.specs.declared.accept.Checked.{Checked}
-use Rattle.image.specs.declared.conditions.ConditionSet.{ConditionSet}
 use Rattle.image.specs.Bytes.{Bytes, over}
 use Rattle.image.specs.Check.{answer_of, shape_of}
 use Rattle.image.specs.Rows.{Row, Answer, refused, answer, judge, written, check_rows}
 use Rattle.image.specs.Sets.{settings, in_condition, condition_rows, set_answer}
-use Rattle.configure.specs.declared.Configured.{Configured}
-use Rattle.configure.specs.Configured.{configured, configure_rows, configure_answer, Configures}
+use Rattle.configure.specs.Configured.{configured, configure_rows, Configures}
 use Rattle.plain.specs.declared.progress.Progress.{Progress}
-use Rattle.plain.specs.declared.PlainRun.{PlainRun}
 use Rattle.plain.specs.PlainRun as Plain
-use Rattle.plain.specs.PlainRun.{progress_of, plain_rows, hall_rows, plain_answer, RunsIn, Runs}
+use Rattle.plain.specs.PlainRun.{progress_of, plain_rows, hall_rows, RunsIn, Runs}
 use Rattle.shared.specs.declared.Ends.{Ends}
-use Rattle.shared.specs.declared.SharedRun.{SharedRun}
 use Rattle.shared.specs.Lent.{Tally}
 use Rattle.shared.specs.SharedRun as Shared
-use Rattle.shared.specs.SharedRun.{set_of, numbers_of, tally_of, ends_of, shared_rows, shared_answer, SharedRuns}
+use Rattle.shared.specs.SharedRun.{set_of, numbers_of, tally_of, ends_of, shared_rows, SharedRuns}
 
 -- an image, and what is lent with it
 pub data Call : Type 0 where
@@ -91,31 +89,31 @@ row_of (x ∷ cs) hold (suc k) c at =
 
 -- ---- whatever keeps a call's promise is what comes back
 
-pub shared_kept : {l : Bytes} {set budget : ℕ} {xs xs' : List ℤ} {T T' : Tally} {r : SharedRun}
-    → SharedRuns (shared_rows l set budget xs T) l set budget xs T xs' T' r → shared (shared_answer r) xs' T' ≡ comes_back (shared_run l set budget xs T)
+pub shared_kept : {l : Bytes} {set budget : ℕ} {xs xs' : List ℤ} {T T' : Tally} {r : Std.Result Ends Refusal}
+    → SharedRuns (shared_rows l set budget xs T) l set budget xs T xs' T' r → shared (answer_of r) xs' T' ≡ comes_back (shared_run l set budget xs T)
 unfolding comes_back
 shared_kept ran = λ i. shared (ran.answered i) (ran.store_is i) (ran.tally_is i)
 
-pub plain_kept : {l : Bytes} {budget : ℕ} {ns ns' : Numbers} {r : PlainRun}
-    → Runs (plain_rows l budget (length ns)) l budget ns ns' r → plain (plain_answer r) ns' ≡ comes_back (plain_run l budget ns)
+pub plain_kept : {l : Bytes} {budget : ℕ} {ns ns' : Numbers} {r : Std.Result Progress Refusal}
+    → Runs (plain_rows l budget (length ns)) l budget ns ns' r → plain (answer_of r) ns' ≡ comes_back (plain_run l budget ns)
 unfolding comes_back
 plain_kept ran = λ i. plain (ran.answered i) (ran.numbers_are i)
 
-pub hall_kept : {l : Bytes} {s budget : ℕ} {ns ns' : Numbers} {r : PlainRun}
-    → RunsIn s (hall_rows l s budget (length ns)) l budget ns ns' r → plain (plain_answer r) ns' ≡ comes_back (one_hall l s budget ns)
+pub hall_kept : {l : Bytes} {s budget : ℕ} {ns ns' : Numbers} {r : Std.Result Progress Refusal}
+    → RunsIn s (hall_rows l s budget (length ns)) l budget ns ns' r → plain (answer_of r) ns' ≡ comes_back (one_hall l s budget ns)
 unfolding comes_back
 hall_kept ran = λ i. plain (ran.answered i) (ran.numbers_are i)
 
-pub configuring_kept : {l : Bytes} {s : ℕ} {out out' : Bytes} {r : Configured}
-    → Configures (configure_rows l s (length out)) l s out out' r → configuring (configure_answer r) out' ≡ comes_back (configure l s out)
+pub configuring_kept : {l : Bytes} {s : ℕ} {out out' : Bytes} {r : Std.Result ℕ Refusal}
+    → Configures (configure_rows l s (length out)) l s out out' r → configuring (answer_of r) out' ≡ comes_back (configure l s out)
 unfolding comes_back
 configuring_kept wrote = λ i. configuring (wrote.answered i) (wrote.out_is i)
 
-pub checking_kept : (l : Bytes) (r : Checked) → answer_of r ≡ judge (check_rows l) (shape_of l) → checking (answer_of r) ≡ comes_back (check l)
+pub checking_kept : (l : Bytes) (r : Std.Result Shape Refusal) → answer_of r ≡ judge (check_rows l) (shape_of l) → checking (answer_of r) ≡ comes_back (check l)
 unfolding comes_back
 checking_kept l r answered = ap checking answered
 
-pub asking_kept : (l : Bytes) (k : ℕ) (r : ConditionSet) → set_answer r ≡ judge (condition_rows l k) (in_condition l k)
+pub asking_kept : (l : Bytes) (k : ℕ) (r : Std.Result Set Refusal) → set_answer r ≡ judge (condition_rows l k) (in_condition l k)
     → asking (bits_of (set_answer r)) ≡ comes_back (condition_set l k)
 unfolding comes_back
 asking_kept l k r answered = ap (λ a. asking (bits_of a)) answered

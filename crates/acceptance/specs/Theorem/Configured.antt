@@ -1,27 +1,22 @@
 -- Configuring that was carried out: the bytes written are the configured image; and it is carried out where there is space for them, as 8,200 bytes always are.
-use Rattle.std.specs.Prelude.{◌≡◌, List, ℕ, ◌≤◌, ◌<◌, length, take}
+use Rattle.std.specs.Prelude.{◌≡◌, List, ℕ, ◌≤◌, ◌<◌, length, take, Result, Ok}
 use Rattle.std.proofs.Common.{sym, ◌∙◌, arith}
 use Rattle.std.proofs.Math.Path.{ap}
 use Rattle.std.proofs.Math.Bool.{not}
 use Rattle.std.proofs.Math.ListN.{drop}
 use Rattle.std.proofs.Math.Seq.{take_at, drop_at}
 use borrow.Author.Tests.{lt-ltb, le-ltb, ltb-true, not-false}
+use Rattle.image.specs.declared.refusals.Refusal.{Refusal}
 use Rattle.image.specs.Bytes.{Bytes, over}
-use Rattle.image.specs.Rows.{Row, answer, check_rows, NoneFails}
+use Rattle.image.specs.Rows.{Row, check_rows, NoneFails}
 use Rattle.image.specs.Sets.{settings}
 use Rattle.image.proofs.Theorem.Given.{answered, carried_out}
 use Rattle.image.specs.Accepted.{Accepted}
 use Rattle.image.proofs.Theorem.Accepted.{all_passed, accepts}
 use Rattle.image.proofs.Theorem.Carried.{none_each, none_both, carried, written_new}
-use Rattle.configure.specs.declared.Configured.{Configured}
-use Rattle.configure.specs.declared.Configured.TheVariants.{Length, Refused}
-use Rattle.configure.specs.Configured.{configured, space_rows, configure_rows, configure_answer, Configures}
+use Rattle.configure.specs.Configured.{configured, space_rows, configure_rows, Configures}
 use Rattle.configure.specs.Theorem.Result.{shape_is, passes}
-
--- an answer that is no refusal
-length_answered : (r : Configured) (n : ℕ) → configure_answer r ≡ answer n → r ≡ Length n
-length_answered (Length m) n e = let same : m ≡ n = cc in ap Length same
-length_answered (Refused q) n e = let z : ◌≡◌ {A = ℕ} 0 1 = cc in absurd (omega arith)
+use Rattle.acceptance.specs.Theorem.One.{no_refusal}
 
 module _ (l : Bytes) (s : ℕ) (out out' : Bytes) where
   abbrev rows : List Row
@@ -29,7 +24,7 @@ module _ (l : Bytes) (s : ℕ) (out out' : Bytes) where
 
   -- ---- what was carried out
 
-  module _ {n : ℕ} (wrote : Configures rows l s out out' (Length n)) where
+  module _ {n : ℕ} (wrote : Configures rows l s out out' (Ok n)) where
     done : NoneFails rows × (n ≡ length (configured l s))
     done = carried rows (length (configured l s)) n wrote.answered
 
@@ -68,8 +63,8 @@ module _ (l : Bytes) (s : ℕ) (out out' : Bytes) where
       (le-ltb (length out) (length (configured l s)) room, tt),
     )
 
-    pub is_written : {r : Configured} → Configures rows l s out out' r → r ≡ Length (length (configured l s))
-    is_written {r} wrote = length_answered r _ (wrote.answered ∙ (carried_out (length (configured l s)) rows).1 none)
+    pub is_written : {r : Result ℕ Refusal} → Configures rows l s out out' r → r ≡ Ok (length (configured l s))
+    is_written {r} wrote = no_refusal r _ (wrote.answered ∙ (carried_out (length (configured l s)) rows).1 none)
 
 pub enough : (l : Bytes) (s k : ℕ) → Accepted l → 8200 ≤ k → length (configured l s) ≤ k
 enough l s k acc room =

@@ -1,5 +1,5 @@
 -- Condition 3 makes every comparison of the program true.
-use Rattle.std.specs.Prelude.{◌≡◌, refl, Bool, ℕ, ◌+◌, ◌*◌, ◌<◌, ℤ, pos, drop}
+use Rattle.std.specs.Prelude.{◌≡◌, refl, Bool, ℕ, ◌+◌, ◌*◌, ◌<◌, ℤ, pos, drop, Ok}
 use Rattle.std.proofs.Math.Path.{sym, ap}
 use Rattle.std.proofs.Common.{◌∙◌, arith, ext_get_or, get_or-take, get_or-drop}
 use Rattle.std.proofs.Math.Bool.{true, false}
@@ -15,10 +15,8 @@ use Rattle.image.specs.Sets.{settings}
 use Rattle.image.specs.Accepted.{Accepted}
 use Rattle.image.proofs.Theorem.Given.{carried_out}
 use Rattle.image.proofs.Theorem.Carried.{carried, written_new}
-use Rattle.plain.specs.declared.PlainRun.TheVariants as Plain
 use Rattle.plain.specs.PlainRun.{meant_in, progress_of, hall_rows, RunsIn}
 use Rattle.shared.specs.declared.Ends.{Ends}
-use Rattle.shared.specs.declared.SharedRun.TheVariants as Shared
 use Rattle.shared.specs.Lent.{Tally, progress, part}
 use Rattle.shared.specs.SharedRun as Sharing
 use Rattle.shared.specs.SharedRun.{tally_of, ends_of, shared_rows, SharedRuns}
@@ -51,7 +49,7 @@ part_of_start N s h =
 -- ---- a shared run that was carried out
 
 module _ {l : Bytes} {set budget : ℕ} {xs xs' : List ℤ} {T T' : Tally} {e : Ends} (begun : xs ≡ starts 0 (settings l * 16))
-    (ran : SharedRuns (shared_rows l set budget xs T) l set budget xs T xs' T' (Shared.Ended e)) where
+    (ran : SharedRuns (shared_rows l set budget xs T) l set budget xs T xs' T' (Ok e)) where
   abbrev N : ℕ
   N = settings l
 
@@ -69,9 +67,9 @@ module _ {l : Bytes} {set budget : ℕ} {xs xs' : List ℤ} {T T' : Tally} {e : 
       let rows : List Row = hall_rows l s budget (length (part xs s)) in
       let none : NoneFails rows = Hall.none l acc s budget h (Run.allowed ran) (part xs s) (Run.sixteen ran s h) in
       let end : State = meant_in s l budget (part xs s) in
-      let runs : RunsIn s rows l budget (part xs s) end.numbers (Plain.Ended (progress_of end)) =
+      let runs : RunsIn s rows l budget (part xs s) end.numbers (Ok (progress_of end)) =
       record { answered = sym ((carried_out (progress_of end) rows).1 none); numbers_are = sym (written_new rows end.numbers (part xs s) none) } in
-      let ends = kept.inside s i end.numbers (Plain.Ended (progress_of end)) runs in
+      let ends = kept.inside s i end.numbers (Ok (progress_of end)) runs in
       let same : progress_of end ≡ progress T' s = let both = ends.0 in cc in
       run_ended s (progress T' s) (part xs' s) (own_part s h) runs refl
       (sym ((same_progress_is (progress T' s) (progress_of end)).1 (sym same))) (sym ((same_numbers_is end.numbers (part xs' s)).1 ends.1))

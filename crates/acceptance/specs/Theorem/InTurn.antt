@@ -1,6 +1,6 @@
 -- The two calls in turn keep one hall's promise. The idea: behind tests 1 to 8 and 11, what configuring wrote passes tests 1 to 8 and 13 and means the same run,
 -- so that the same is left on both sides: tests 10 and 12.
-use Rattle.std.specs.Prelude.{◌≡◌, ℕ, ◌<◌, length, take}
+use Rattle.std.specs.Prelude.{◌≡◌, ℕ, ◌<◌, length, take, Result, Ok, Err}
 use Rattle.std.proofs.Math.Path.{sym, ap}
 use Rattle.std.proofs.Common.{◌∙◌, subst, subst₂, arith, lt-ltb, le-ltb}
 use Rattle.std.proofs.Math.Bool.{not}
@@ -9,6 +9,7 @@ use Rattle.imp.specs.State.{Numbers, State}
 use Rattle.imp.specs.Configure.{configure}
 use Rattle.imp.specs.Plain.{plain_run}
 use Rattle.imp.proofs.Theorem.Configured.{configure_embed}
+use Rattle.image.specs.declared.refusals.Refusal.{Refusal}
 use Rattle.image.specs.Bytes.{Bytes}
 use Rattle.image.specs.Refusals.{number_of, place_of}
 use Rattle.image.specs.Rows.{Row, refused, judge, written, check_rows, NoneFails}
@@ -19,11 +20,9 @@ use Rattle.image.proofs.Theorem.Accepted.{all_passed, accepts}
 use Rattle.image.proofs.Theorem.Given.{judge_passes, by_answer, written_as_judged}
 use Rattle.image.proofs.Theorem.Then.{judge_then}
 use Rattle.image.proofs.Theorem.Carried.{none_each, refused_alike}
-use Rattle.configure.specs.declared.Configured.TheVariants as Configuring
 use Rattle.configure.specs.Configured.{configured, space_rows, configure_rows, Configures}
 use Rattle.configure.specs.Theorem.Result.{shape_is, passes, tree_is}
-use Rattle.plain.specs.declared.PlainRun.{PlainRun}
-use Rattle.plain.specs.declared.PlainRun.TheVariants as Plain
+use Rattle.plain.specs.declared.progress.Progress.{Progress}
 use Rattle.plain.specs.PlainRun.{meant_in, meant, progress_of, lent_rows, choice_row, plain_rows, hall_rows, RunsIn, Runs}
 use Rattle.plain.specs.Theorem.NoChoice.{no_choice_row, no_condition}
 use Rattle.acceptance.specs.InTurn.{InTurn, stopped, went_on}
@@ -57,7 +56,7 @@ module _ (l : Bytes) (s budget : ℕ) (ns : Numbers) where
         ∙ ap (λ a. by_answer a new ns) (same_judged new)
         ∙ sym (written_as_judged rows new new ns)
 
-  pub as_run : (out out' : Bytes) (n : ℕ) → Configures (configure_rows l s (length out)) l s out out' (Configuring.Length n) → {ns' : Numbers} {r : PlainRun}
+  pub as_run : (out out' : Bytes) (n : ℕ) → Configures (configure_rows l s (length out)) l s out out' (Ok n) → {ns' : Numbers} {r : Result Progress Refusal}
       → Runs (plain_rows (take n out') budget (length ns)) (take n out') budget ns ns' r → RunsIn s rows l budget ns ns' r
   as_run out out' n wrote {ns'} {r} ran =
       let acc = Written.was_accepted l s out out' wrote in
@@ -70,7 +69,7 @@ module _ (l : Bytes) (s budget : ℕ) (ns : Numbers) where
 
   -- ---- both
 
-  pub as_one_hall : {ns' : Numbers} {r : PlainRun} → InTurn l s budget ns ns' r → RunsIn s rows l budget ns ns' r
+  pub as_one_hall : {ns' : Numbers} {r : Result Progress Refusal} → InTurn l s budget ns ns' r → RunsIn s rows l budget ns ns' r
   unfolding check_rows configure_rows space_rows hall_rows
   as_one_hall (went_on out out' n wrote ran) = as_run out out' n wrote ran
   as_one_hall (stopped out out' q room wrote r-is ns-is) =
@@ -85,7 +84,7 @@ module _ (l : Bytes) (s budget : ℕ) (ns : Numbers) where
           (le-ltb (length out) (length image) (omega (arith, long)), tt) in
           sym (refused_alike x (length image) (space_rows l s (length out)) (lent_rows budget (length ns)) (number_of q) (place_of q) first fits (sym wrote.answered))
 
-      as_refused : RunsIn s rows l budget ns ns (Plain.Refused q)
+      as_refused : RunsIn s rows l budget ns ns (Err q)
       as_refused =
           let new : Numbers = (meant_in s l budget ns).numbers in
           record {

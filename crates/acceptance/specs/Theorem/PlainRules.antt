@@ -1,6 +1,6 @@
 -- A run of one setting that was carried out, by the rules of chapter 4. The idea: it is theirs of the routine configured for the setting, and an image that holds
 -- no choice is its own routine.
-use Rattle.std.specs.Prelude.{◌≡◌, Bool, List, ◌∷◌, ℕ, length}
+use Rattle.std.specs.Prelude.{◌≡◌, Bool, List, ◌∷◌, ℕ, length, Ok}
 use Rattle.std.proofs.Common.{sym, ◌∙◌, ap, subst, arith, ltb-false}
 use Rattle.std.proofs.Math.Path.{subst₂}
 use Rattle.imp.specs.Routine.{Statement}
@@ -18,7 +18,6 @@ use Rattle.image.proofs.Theorem.Accepted.{all_passed}
 use Rattle.image.proofs.Theorem.Lowest.{lowest_good}
 use Rattle.image.proofs.Theorem.Carried.{none_each, carried, written_new}
 use Rattle.plain.specs.declared.progress.Progress.{Progress}
-use Rattle.plain.specs.declared.PlainRun.TheVariants.{Ended}
 use Rattle.plain.specs.PlainRun.{meant_in, progress_of, lent_rows, choice_row, plain_rows, RunsIn, Runs}
 use Rattle.plain.specs.Theorem.NoChoice.{NoChoice, own_routine}
 use Rattle.acceptance.specs.ByRules.{ByImp}
@@ -26,7 +25,7 @@ use Rattle.acceptance.specs.Theorem.ImpEnds.{imp_ends, imp_only}
 
 -- ---- a run in setting s, whatever its table is: the rules of the routine configured for it
 
-module _ {s : ℕ} {rows : List Row} {l : Bytes} {budget : ℕ} {ns ns' : Numbers} {p : Progress} (ran : RunsIn s rows l budget ns ns' (Ended p)) where
+module _ {s : ℕ} {rows : List Row} {l : Bytes} {budget : ℕ} {ns ns' : Numbers} {p : Progress} (ran : RunsIn s rows l budget ns ns' (Ok p)) where
   none : NoneFails rows × (p ≡ progress_of (meant_in s l budget ns))
   none = carried rows (progress_of (meant_in s l budget ns)) p ran.answered
 
@@ -45,7 +44,7 @@ module _ {s : ℕ} {rows : List Row} {l : Bytes} {budget : ℕ} {ns ns' : Number
 -- ---- a plain run: its image's own routine
 
 module _ {l : Bytes} {budget : ℕ} {ns ns' : Numbers} {p : Progress}
-    (ran : Runs (plain_rows l budget (length ns)) l budget ns ns' (Ended p)) where
+    (ran : Runs (plain_rows l budget (length ns)) l budget ns ns' (Ok p)) where
   abbrev rows : List Row
   rows = plain_rows l budget (length ns)
 

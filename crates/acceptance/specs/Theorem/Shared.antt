@@ -1,5 +1,5 @@
 -- A shared run that was carried out: what its tests leave known, and what it left for each setting.
-use Rattle.std.specs.Prelude.{◌≡◌, Bool, List, ℕ, ◌*◌, ◌≤◌, ◌<◌, ℤ, pos}
+use Rattle.std.specs.Prelude.{◌≡◌, Bool, List, ℕ, ◌*◌, ◌≤◌, ◌<◌, ℤ, pos, Ok}
 use Rattle.std.proofs.Math.Path.{refl, ap}
 use Rattle.std.proofs.Common.{◌∙◌}
 use Rattle.std.proofs.Math.Bool.{true, false}
@@ -23,13 +23,12 @@ use Rattle.image.proofs.Theorem.Accepted.{all_passed}
 use Rattle.image.proofs.Theorem.Carried.{none_each, carried, written_new}
 use Rattle.plain.specs.PlainRun.{progress_of}
 use Rattle.shared.specs.declared.Ends.{Ends}
-use Rattle.shared.specs.declared.SharedRun.TheVariants.{Ended}
 use Rattle.shared.specs.Lent.{Tally, progress, part}
 use Rattle.shared.specs.SharedRun.{meant, numbers_of, tally_of, ends_of, exact, set_rows, shared_rows, SharedRuns}
 use Rattle.acceptance.specs.Theorem.Left.{each_at, each_past, part_length, numbers_at}
 
 module _ {l : Bytes} {set budget : ℕ} {xs xs' : List ℤ} {T T' : Tally} {e : Ends}
-    (ran : SharedRuns (shared_rows l set budget xs T) l set budget xs T xs' T' (Ended e)) where
+    (ran : SharedRuns (shared_rows l set budget xs T) l set budget xs T xs' T' (Ok e)) where
   abbrev N : ℕ
   N = settings l
 

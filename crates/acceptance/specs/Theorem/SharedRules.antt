@@ -1,5 +1,5 @@
 -- A shared run that was carried out, by the rules of chapter 5: they derive one world, and what was answered and left is that world's, setting by setting.
-use Rattle.std.specs.Prelude.{◌≡◌, true, List, ℕ, ◌<◌, ℤ}
+use Rattle.std.specs.Prelude.{◌≡◌, true, List, ℕ, ◌<◌, ℤ, Ok}
 use Rattle.std.proofs.Math.Path.{sym, ap, subst₂}
 use Rattle.std.proofs.Common.{◌∙◌}
 use Rattle.sets.specs.Member.{bit}
@@ -14,7 +14,6 @@ use Rattle.image.specs.Sets.{settings}
 use Rattle.image.specs.Tree.{routine}
 use Rattle.plain.specs.PlainRun.{progress_of}
 use Rattle.shared.specs.declared.Ends.{Ends}
-use Rattle.shared.specs.declared.SharedRun.TheVariants.{Ended}
 use Rattle.shared.specs.Lent.{Tally, progress, part}
 use Rattle.shared.specs.SharedRun.{meant, ends_of, shared_rows, SharedRuns}
 use Rattle.acceptance.specs.ByRules.{ended, says, ByImp}
@@ -22,7 +21,7 @@ use Rattle.acceptance.specs.Theorem.Shared as Run
 use Rattle.acceptance.specs.Theorem.ImpEnds.{imp_ends}
 
 module _ {l : Bytes} {set budget : ℕ} {xs xs' : List ℤ} {T T' : Tally} {e : Ends}
-    (ran : SharedRuns (shared_rows l set budget xs T) l set budget xs T xs' T' (Ended e)) where
+    (ran : SharedRuns (shared_rows l set budget xs T) l set budget xs T xs' T' (Ok e)) where
   abbrev N : ℕ
   N = settings l
 

@@ -1,10 +1,10 @@
 -- Reading that was carried out: the bytes written are the image of the F and the tree that the grammar says, it passes the check and has them.
-use Rattle.std.specs.Prelude.{◌≡◌, ℕ, ◌≤◌, length, take, drop}
+use Rattle.std.specs.Prelude.{◌≡◌, ℕ, ◌≤◌, length, take, drop, Result, Ok}
 use Rattle.std.proofs.Common.{sym, ◌∙◌, ap, subst, arith, take_at, drop_at}
 use Rattle.imp.specs.Condition.{Condition}
 use Rattle.imp.specs.Routine.{Statement}
-use Rattle.image.specs.declared.accept.Checked.{Checked}
-use Rattle.image.specs.declared.accept.Checked.TheVariants.{Good}
+use Rattle.image.specs.declared.refusals.Refusal.{Refusal}
+use Rattle.image.specs.declared.accept.Shape.{Shape}
 use Rattle.image.specs.Bytes.{Bytes, over}
 use Rattle.image.specs.Check.{answer_of, shape_of}
 use Rattle.image.specs.Rows.{Answer, answer, judge, check_rows}
@@ -20,10 +20,8 @@ use Rattle.written.proofs.Theorem.ImageRead.{head_says}
 use Rattle.written.proofs.Theorem.ListRead.{text_read}
 use Rattle.written.proofs.Theorem.ToldOne.{reads_one}
 use Rattle.written.proofs.Theorem.WrittenAccepted.{reading_accepted}
-use Rattle.reading.specs.declared.write.ReadText.{ReadText}
-use Rattle.reading.specs.declared.write.ReadText.TheVariants.{Length, Refused}
-use Rattle.reading.specs.Reads.{read_answer, length_of, left_by, ReadsText}
-use Rattle.acceptance.specs.Theorem.ReadBack.{good}
+use Rattle.reading.specs.Reads.{length_of, left_by, ReadsText}
+use Rattle.acceptance.specs.Theorem.One.{no_refusal}
 use Rattle.acceptance.specs.Theorem.TextTold.{told_so}
 
 -- ---- bytes over a slice
@@ -53,18 +51,13 @@ wrote_by out out' n (too_many q w f) e d = let z : ◌≡◌ {A = ℕ} 0 1 = cc 
 wrote_by out out' n (no_space F t h k) e d = let z : ◌≡◌ {A = ℕ} 0 1 = cc in absurd (omega arith)
 wrote_by out out' n (read_as F t h k) e d = record { F = F; tree = t; holds = h; long = cc; left = d }
 
--- an answer that is no refusal
-length_answered : (r : ReadText) (n : ℕ) → read_answer r ≡ answer n → r ≡ Length n
-length_answered (Length m) n e = let same : m ≡ n = cc in ap Length same
-length_answered (Refused q) n e = let z : ◌≡◌ {A = ℕ} 0 1 = cc in absurd (omega arith)
-
 -- a text that holds F and the tree, with space enough, is read as their image
-module _ (text out out' : Bytes) (r : ReadText) (done : ReadsText text out out' r) (F : ℕ) (t : Statement Condition) (holds : Holds text F t)
+module _ (text out out' : Bytes) (r : Result ℕ Refusal) (done : ReadsText text out out' r) (F : ℕ) (t : Statement Condition) (holds : Holds text F t)
     (room : length (written_image F t) ≤ length out) where
-  pub is_read : (r ≡ Length (length (written_image F t))) × (out' ≡ over (written_image F t) out)
-  is_read = let k = told_so text out out' r done (read_as F t holds room) in (length_answered r _ k.0, k.1)
+  pub is_read : (r ≡ Ok (length (written_image F t))) × (out' ≡ over (written_image F t) out)
+  is_read = let k = told_so text out out' r done (read_as F t holds room) in (no_refusal r _ k.0, k.1)
 
-module _ (text out out' : Bytes) {n : ℕ} (done : ReadsText text out out' (Length n)) where
+module _ (text out out' : Bytes) {n : ℕ} (done : ReadsText text out out' (Ok n)) where
   pub wrote : Wrote text out out' n
   wrote = wrote_by out out' n done.by_grammar done.answered done.out_is
 
@@ -93,11 +86,11 @@ module _ (text out out' : Bytes) {n : ℕ} (done : ReadsText text out out' (Leng
       let h = head_says F tree v.0 v.1 v.2 wrote.holds.few_nodes wrote.holds.few_records in
       λ i. record { options = h.1 i; conditions = h.2 i; nodes = h.3 i }
 
-  pub passes : (r : Checked) → answer_of r ≡ judge (check_rows (take n out')) (shape_of (take n out'))
-      → r ≡ Good (record { options = F; conditions = recordsˢ tree; nodes = sizeˢ tree })
+  pub passes : (r : Result Shape Refusal) → answer_of r ≡ judge (check_rows (take n out')) (shape_of (take n out'))
+      → r ≡ Ok (record { options = F; conditions = recordsˢ tree; nodes = sizeˢ tree })
   passes r checked =
       let of_image : answer_of r ≡ judge (check_rows image) (shape_of image) = subst (λ m. answer_of r ≡ judge (check_rows m) (shape_of m)) image_is checked in
-      good r _ (of_image ∙ accepts image (shape_of image) (reading_accepted text F tree wrote.holds) ∙ ap answer shape_is)
+      no_refusal r _ (of_image ∙ accepts image (shape_of image) (reading_accepted text F tree wrote.holds) ∙ ap answer shape_is)
 
   pub tree_is : routine (take n out') ≡ tree
   tree_is = ap routine image_is ∙ (text_read text F tree wrote.holds).1

@@ -1,8 +1,10 @@
 -- A reading by the grammar: which refusal it answers, exactly when, and what it then leaves.
-use Rattle.std.specs.Prelude.{◌≡◌, [], ◌↔◌, ℕ, ◌≤◌, ◌<◌, length}
+use Rattle.std.specs.Prelude.{◌≡◌, [], ◌↔◌, ℕ, ◌≤◌, ◌<◌, length, Result}
 use Rattle.std.proofs.Common.{sym, ◌∙◌, ap, subst, arith}
 use Rattle.imp.specs.Condition.{Condition}
 use Rattle.imp.specs.Routine.{Statement}
+use Rattle.image.specs.Check.{answer_of}
+use Rattle.image.specs.declared.refusals.Refusal.{Refusal}
 use Rattle.image.specs.Bytes.{Bytes}
 use Rattle.image.specs.Rows.{Answer, refused, answer}
 use Rattle.written.specs.Grammar.{Refused17}
@@ -10,8 +12,7 @@ use Rattle.written.specs.Limits.{Refused18}
 use Rattle.written.specs.Image.{written_image}
 use Rattle.written.specs.Told.{Holds, Told, text_wrong, too_many, no_space, read_as}
 use Rattle.written.proofs.Theorem.ToldOne.{told_one}
-use Rattle.reading.specs.declared.write.ReadText.{ReadText}
-use Rattle.reading.specs.Reads.{read_answer, length_of, left_by, ReadsText}
+use Rattle.reading.specs.Reads.{length_of, left_by, ReadsText}
 
 -- ---- what each answer says of the text
 
@@ -62,33 +63,33 @@ refused_too : (a : Answer Bytes) (n p : ℕ) → length_of a ≡ refused n p →
 refused_too (refused m q) n p e = ap bare e
 refused_too (answer l) n p e = let z : ◌≡◌ {A = ℕ} 0 1 = cc in absurd (omega arith)
 
-module _ (text out out' : Bytes) (r : ReadText) (done : ReadsText text out out' r) where
+module _ (text out out' : Bytes) (r : Result ℕ Refusal) (done : ReadsText text out out' r) where
   -- what is told of the text is answered and left
-  pub told_so : {a : Answer Bytes} → Told text (length out) a → (read_answer r ≡ length_of a) × (out' ≡ left_by a out)
+  pub told_so : {a : Answer Bytes} → Told text (length out) a → (answer_of r ≡ length_of a) × (out' ≡ left_by a out)
   told_so t =
       let same = told_one done.by_grammar t in
       (done.answered ∙ ap length_of same, done.out_is ∙ ap (λ a. left_by a out) same)
 
-  refused_so : (n p : ℕ) → read_answer r ≡ refused n p → done.told ≡ refused n p
+  refused_so : (n p : ℕ) → answer_of r ≡ refused n p → done.told ≡ refused n p
   refused_so n p e = refused_too done.told n p (sym done.answered ∙ e)
 
-  pub text_wrong_is : (p : ℕ) → (read_answer r ≡ refused 17 p) ↔ First17 text p
+  pub text_wrong_is : (p : ℕ) → (answer_of r ≡ refused 17 p) ↔ First17 text p
   text_wrong_is p = (λ e. wrong_at p done.by_grammar (refused_so 17 p e), λ h. (told_so (text_wrong p h.0 h.1)).0)
 
-  pub too_many_is : (p : ℕ) → (read_answer r ≡ refused 18 p) ↔ First18 text p
+  pub too_many_is : (p : ℕ) → (answer_of r ≡ refused 18 p) ↔ First18 text p
   too_many_is p = (λ e. many_at p done.by_grammar (refused_so 18 p e), λ h. (told_so (too_many p h.0 h.1)).0)
 
-  pub no_space_is : (p : ℕ) → (read_answer r ≡ refused 14 p) ↔ ((p ≡ 0) × Within text (λ n. length out < n))
+  pub no_space_is : (p : ℕ) → (answer_of r ≡ refused 14 p) ↔ ((p ≡ 0) × Within text (λ n. length out < n))
   no_space_is p = (
     λ e. short_at p done.by_grammar (refused_so 14 p e),
     λ h. (told_so (no_space h.1.0 h.1.1 h.1.2 h.1.3)).0 ∙ ap (refused 14) (sym h.0),
   )
 
-  pub carried_out_is : ((n : ℕ) × (read_answer r ≡ answer n)) ↔ Within text (λ n. n ≤ length out)
+  pub carried_out_is : ((n : ℕ) × (answer_of r ≡ answer n)) ↔ Within text (λ n. n ≤ length out)
   carried_out_is = (
     λ e. fits_in e.0 done.by_grammar (sym done.answered ∙ e.1),
     λ h. (length (written_image h.0 h.1), (told_so (read_as h.0 h.1 h.2 h.3)).0),
   )
 
-  pub as_lent : (n p : ℕ) → read_answer r ≡ refused n p → out' ≡ out
+  pub as_lent : (n p : ℕ) → answer_of r ≡ refused n p → out' ≡ out
   as_lent n p e = done.out_is ∙ ap (λ a. left_by a out) (refused_so n p e)

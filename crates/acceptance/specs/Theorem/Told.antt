@@ -1,6 +1,6 @@
 -- A report by its table: the text is a refusal's line exactly where its row is the first to fail, and a run's where none does. What does not fit is not
 -- written.
-use Rattle.std.specs.Prelude.{◌≡◌, cond, ◌++◌, ◌↔◌, ◌⊎◌, ℕ, ◌^◌, ◌≤◌, ◌<◌, length}
+use Rattle.std.specs.Prelude.{◌≡◌, cond, ◌++◌, ◌↔◌, ◌⊎◌, ℕ, ◌^◌, ◌≤◌, ◌<◌, length, Result, Ok, Err}
 use Rattle.std.proofs.Common.{sym, ◌∙◌, subst₂, inl, inr, pow_pos, lt-ltb, le-ltb}
 use Rattle.std.proofs.Math.Path.{ap}
 use Rattle.image.specs.Bytes.{Bytes, over}
@@ -10,8 +10,7 @@ use Rattle.image.specs.Rows.{NoneFails, Given}
 use Rattle.image.proofs.Theorem.Given.{refused_given, carried_out}
 use Rattle.imp.specs.Shared.{Shared}
 use Rattle.shared.specs.SharedRun.{ends_of}
-use Rattle.lines.specs.declared.answer.Report.{Report}
-use Rattle.lines.specs.declared.answer.Report.TheVariants.{Text, Short}
+use Rattle.lines.specs.declared.answer.Short.{Short}
 use Rattle.lines.specs.Report.{Reports}
 use Rattle.lines.specs.Text.{lines, last_line, refusal_line, set_in, budget_in, image_in, run_of, report_rows, told, text}
 use Rattle.acceptance.specs.Theorem.ByTable.{decided}
@@ -51,13 +50,13 @@ module _ (input : Bytes) where
 
 -- ---- what is written of it
 
-module _ {t out out' : Bytes} {r : Report} (reports : Reports t out out' r) where
-  pub fits : length t ≤ length out → (r ≡ Text (length t)) × (out' ≡ over t out)
+module _ {t out out' : Bytes} {r : Result ℕ Short} (reports : Reports t out out' r) where
+  pub fits : length t ≤ length out → (r ≡ Ok (length t)) × (out' ≡ over t out)
   fits h =
       let e = le-ltb (length out) (length t) h in
-      (reports.answered ∙ ap (λ u. cond u (Short (length t)) (Text (length t))) e, reports.out_is ∙ ap (λ u. cond u out (over t out)) e)
+      (reports.answered ∙ ap (λ u. cond u (Err (record { 0 = length t })) (Ok (length t))) e, reports.out_is ∙ ap (λ u. cond u out (over t out)) e)
 
-  pub does_not_fit : length out < length t → (r ≡ Short (length t)) × (out' ≡ out)
+  pub does_not_fit : length out < length t → (r ≡ Err (record { 0 = length t })) × (out' ≡ out)
   does_not_fit h =
       let e = lt-ltb (length out) (length t) h in
-      (reports.answered ∙ ap (λ u. cond u (Short (length t)) (Text (length t))) e, reports.out_is ∙ ap (λ u. cond u out (over t out)) e)
+      (reports.answered ∙ ap (λ u. cond u (Err (record { 0 = length t })) (Ok (length t))) e, reports.out_is ∙ ap (λ u. cond u out (over t out)) e)

@@ -8,22 +8,20 @@ use lib.Dec.{ltb}
 use lib.ListN.{length}
 use borrow.Author.Tests.{ltb-true}
 use Rattle.image.specs.declared.accept.Shape.{Shape}
-use Rattle.image.specs.declared.accept.Checked.{Checked}
-use Rattle.image.specs.declared.accept.Checked.TheVariants.{Good}
 use Rattle.sets.specs.Member.{bit}
 use Rattle.image.specs.declared.refusals.Refusal.{Refusal}
 use Rattle.image.specs.declared.refusals.Refusal.TheVariants.{SettingBeyond}
 use Rattle.image.specs.Records.{header}
 use Rattle.image.specs.Refusals.{number_of, place_of}
 use Rattle.image.specs.Rows.{refused, answer, judge, written, check_rows}
-use Rattle.image.specs.Check.{answer_of, shape_of}
+use Rattle.image.specs.Check.{shape_of}
 use Rattle.image.specs.Sets.{settings}
 use Rattle.image.specs.Accepted.{Accepted}
 use Rattle.image.proofs.Theorem.Accepted.{accepts}
 use Rattle.image.proofs.Theorem.Checked.{good_accepted, good_shape}
 use Rattle.image.proofs.Theorem.Then.{judge_then, judge_stops, written_then, written_stops}
-use Rattle.configure.specs.declared.Configured.{Configured}
-use Rattle.configure.specs.declared.Configured.TheVariants.{Refused}
+use Rattle.std.specs.Prelude.{Result, Err}
+use Rattle.std.proofs.lemmas.Result.{err_from_is_err_and}
 use Rattle.configure.specs.Configured.{space_rows, configure_rows, Configures}
 use Rattle.configure.proofs.configure.Goals as goal
 
@@ -31,21 +29,21 @@ use Rattle.configure.proofs.configure.Goals as goal
 
 module _ (l : List ℕ) (s : ℕ) (out : List ℕ) where
   refused_first : (r : Refusal) → refused (number_of r) (place_of r) ≡ judge (check_rows l) (shape_of l)
-      → Configures (configure_rows l s (length out)) l s out out (Refused r)
+      → Configures (configure_rows l s (length out)) l s out out (Err r)
   unfolding configure_rows
   refused_first r e = record {
     answered = sym (judge_stops (shape_of l) (check_rows l) _ _ _ _ (sym e));
     out_is = sym (written_stops (shape_of l) (check_rows l) _ _ _ _ _ (sym e));
   }
 
-  beyond : Accepted l → ltb s (settings l) ≡ false → Configures (configure_rows l s (length out)) l s out out (Refused SettingBeyond)
+  beyond : Accepted l → ltb s (settings l) ≡ false → Configures (configure_rows l s (length out)) l s out out (Err SettingBeyond)
   unfolding configure_rows judge written
   beyond a e = record {
     answered = sym (judge_then s (check_rows l) _ _ (accepts l s a) ∙ rw e);
     out_is = sym (written_then s (check_rows l) _ _ _ (accepts l s a) ∙ rw e);
   }
 
-  goes_on : Accepted l → ltb s (settings l) ≡ true → {out' : List ℕ} {r : Configured}
+  goes_on : Accepted l → ltb s (settings l) ≡ true → {out' : List ℕ} {r : Result ℕ Refusal}
       → Configures (space_rows l s (length out)) l s out out' r → Configures (configure_rows l s (length out)) l s out out' r
   unfolding configure_rows judge written
   goes_on a e h = record {
@@ -54,11 +52,6 @@ module _ (l : List ℕ) (s : ℕ) (out : List ℕ) where
   }
 
 -- ---- where the image is good
-
--- the check's answer
-told : (l : List ℕ) {r : Checked} {shape : Shape} → r ≡ Good shape → answer_of r ≡ judge (check_rows l) (shape_of l)
-    → answer shape ≡ judge (check_rows l) (shape_of l)
-told l is_good ensured = ap answer_of (sym is_good) ∙ ensured
 
 module _ (l : List ℕ) {shape : Shape} (told : answer shape ≡ judge (check_rows l) (shape_of l)) where
   acc : Accepted l
@@ -88,40 +81,47 @@ module _ (l : List ℕ) {shape : Shape} (told : answer shape ≡ judge (check_ro
 pub all_settings-requires : goal.all_settings-requires
 all_settings-requires c =
     let l = c.args.image.now in
-    let good = told l c.in-Good.is c.check.ensures in
+    let good = c.in_ok-shape.ensures in
     omega (arith, options_are l good, (acc l good).few_options)
 
 pub returns-then-not-has : goal.returns-then-not-has
 returns-then-not-has c =
     let l = c.args.image.now in
-    let good = told l c.in-Good.is c.check.ensures in
+    let good = c.in_ok-shape.ensures in
     beyond l _ _ (acc l good) (sym (tested l good _ _ c.has.ensures c.all_settings.ensures) ∙ c.if-not-has.true)
 
 pub condition_sets-sets-requires : goal.condition_sets-sets-requires
 condition_sets-sets-requires c =
     let l = c.args.image.now in
-    let good = told l c.in-Good.is c.check.ensures in
+    let good = c.in_ok-shape.ensures in
     (acc l good, shape_is l good)
 
-pub configure_ready-requires : goal.configure_ready-requires
-configure_ready-requires c =
+pub of-requires : goal.of-requires
+of-requires c =
     let l = c.args.image.now in
-    let good = told l c.in-Good.is c.check.ensures in (
-      record {
+    let good = c.in_ok-shape.ensures in
+    (acc l good, shape_is l good)
+
+pub invariant_of-ready : goal.invariant_of-ready
+invariant_of-ready c =
+    let l = c.args.image.now in
+    let good = c.in_ok-shape.ensures in
+    record {
+      ready = rw c.of.ensures.0 (record {
         accepted = acc l good;
-        conditions_are = conditions_are l good;
-        sets_right = c.condition_sets-sets.ensures.sets_are;
+        conditions_are = c.of.ensures.1 ∙ conditions_are l good;
+        sets_right = rw c.of.ensures.1 c.condition_sets-sets.ensures.sets_are;
         setting_below = ltb-true _ _ (sym (tested l good _ _ c.has.ensures c.all_settings.ensures) ∙ c.if-not-has.false);
-      },
-      nodes_are l good,
-    )
+      });
+    }
 
-pub returns-in-Refused : goal.returns-in-Refused
-returns-in-Refused c =
-    refused_first _ _ _ _ (ap answer_of (sym c.in-Refused.is) ∙ c.check.ensures)
+pub returns-in_err-shape : goal.returns-in_err-shape
+returns-in_err-shape c =
+    let p = err_from_is_err_and c.from_residual.result c.from_residual.ensures.1 in
+    rw (p.1, p.2) (refused_first _ _ _ _ c.in_err-shape.ensures)
 
-pub returns-else-not-has : goal.returns-else-not-has
-returns-else-not-has c =
+pub returns : goal.returns
+returns c =
     let l = c.args.image.now in
-    let good = told l c.in-Good.is c.check.ensures in
-    goes_on l _ _ (acc l good) (sym (tested l good _ _ c.has.ensures c.all_settings.ensures) ∙ c.if-not-has.false) c.configure_ready.ensures
+    let good = c.in_ok-shape.ensures in
+    goes_on l _ _ (acc l good) (sym (tested l good _ _ c.has.ensures c.all_settings.ensures) ∙ c.if-not-has.false) (rw c.of.ensures.0 at c.configure_ready.ensures)

@@ -4,14 +4,12 @@ use Rattle.image.specs.Bytes.{Bytes}
 use Rattle.image.specs.Records.{header}
 use Rattle.image.specs.Term.{size}
 use Rattle.configure.specs.Inner.Term.{term_at}
-use Rattle.image.specs.Inner.Ready.{Ready}
 
 -- the sizes of the terms of the first n nodes
 pub record SizesOf (l : Bytes) (s n : ℕ) (sizes : List ℕ) : Type 0 where
   pub right : (k : ℕ) → k < n → get_or sizes k 0 ≡ size (term_at l s k)
 
-pub record Sizing (l : Bytes) (conditions : ℕ) (condition_sets : List ℕ) (s n : ℕ) (sizes : List ℕ) : Type 0 where
-  pub ready : Ready l conditions condition_sets s
+pub record Sizing (l : Bytes) (s n : ℕ) (sizes : List ℕ) : Type 0 where
   pub node_below : n < (header l).nodes
   pub before : SizesOf l s n sizes
   pub kept : n ≤ length sizes

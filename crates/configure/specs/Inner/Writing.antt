@@ -1,17 +1,15 @@
 -- What the writing of a node's configured term asks for, and what it leaves.
-use Rattle.std.specs.Prelude.{◌≡◌, true, cond, ℕ, ◌+◌, ◌-◌, ◌*◌, ◌≤◌, ◌<◌, List, eqb}
+use Rattle.std.specs.Prelude.{◌≡◌, true, cond, ℕ, ◌+◌, ◌-◌, ◌*◌, ◌≤◌, ◌<◌, eqb}
 use Rattle.std.proofs.lemmas.List.Edits.{sets}
 use Rattle.image.specs.declared.records.Node.{Node}
 use Rattle.image.specs.Bytes.{Bytes}
 use Rattle.image.specs.Records.{header}
 use Rattle.image.specs.Layout.{layout, a_digit, b_digit, c_digit, names_node}
-use Rattle.image.specs.Inner.Ready.{Ready}
 use Rattle.image.specs.Term.{Branch, size, branch_size, node_word, words, branch_words, all_bytes}
 use Rattle.configure.specs.Inner.Term.{hang, term_at}
 
 -- node n is to be written as nodes `at` and on, and there is space for it
-pub record Writing (l : Bytes) (conditions : ℕ) (condition_sets : List ℕ) (s n at space : ℕ) : Type 0 where
-  pub ready : Ready l conditions condition_sets s
+pub record Writing (l : Bytes) (s n at space : ℕ) : Type 0 where
   pub node_below : n < (header l).nodes
   pub few : at + size (term_at l s n) ≤ 1024
   pub fits : 8 + 8 * (at + size (term_at l s n)) ≤ space
@@ -27,8 +25,7 @@ pub record Wrote (l : Bytes) (s n at : ℕ) (out out' : Bytes) (next : ℕ) : Ty
 abbrev pub hung : Bytes → ℕ → ℕ → ℕ → Branch
 hung l s slot value = hang (names_node slot) (term_at l s) value
 
-pub record SlotWriting (l : Bytes) (conditions : ℕ) (condition_sets : List ℕ) (s slot value at space : ℕ) : Type 0 where
-  pub ready : Ready l conditions condition_sets s
+pub record SlotWriting (l : Bytes) (s slot value at space : ℕ) : Type 0 where
   pub child_below : names_node slot ≡ true → value < (header l).nodes
   pub few : at + branch_size (hung l s slot value) ≤ 1024
   pub fits : 8 + 8 * (at + branch_size (hung l s slot value)) ≤ space

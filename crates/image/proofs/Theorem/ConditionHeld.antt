@@ -1,6 +1,6 @@
 -- What a condition record that passes test 5 holds, once its kind is known: its names are lower, its option below F, its kind one of the six.
 use Rattle.std.specs.Prelude.{◌≡◌, Bool, true, not, ◌&&◌, ℕ, zero, suc, ◌/◌, ◌%◌, ◌<◌, eqb}
-use Rattle.std.proofs.Common.{◌∙◌, ap, arith, ltb-true}
+use Rattle.std.proofs.Common.{◌∙◌, ap, sym, arith, ltb-true}
 use Rattle.std.proofs.lemmas.Bool.{false≢true}
 use Rattle.image.specs.declared.records.ConditionRecord.{ConditionRecord}
 use Rattle.image.specs.Layout.{condition_kinds, condition_layout, field_fits}
@@ -43,6 +43,9 @@ module _ (F k : ℕ) (r : ConditionRecord) (fits : condition_fits F k r ≡ true
       let later = both option_good (left_good && right_good) all.1 in
       let last = both left_good right_good later.1 in
       (all.0, later.0, last.0, last.1)
+
+  pub known : condition_layout r.kind ≡ 0 → ⊥
+  known none = false≢true (ap (λ (n : ℕ). not (eqb n 0)) (sym none) ∙ parts.0)
 
   pub kind_below : r.kind < 6
   kind_below = known_below r.kind parts.0

@@ -10,7 +10,7 @@ use Rattle.image.specs.declared.accept.Shape.{Shape}
 use Rattle.image.specs.Bytes.{Bytes}
 use Rattle.image.specs.Records.{header}
 use Rattle.image.specs.Rows.{answer, judge, check_rows}
-use Rattle.image.specs.Check.{answer_of, shape_of}
+use Rattle.image.specs.Check.{shape_of}
 use Rattle.image.specs.Sets.{settings}
 use Rattle.image.specs.Accepted.{Accepted}
 use Rattle.image.proofs.Theorem.Checked.{good_accepted, good_shape}
@@ -61,13 +61,13 @@ returns-then-input-lt12 c =
 pub overflow_shl-n : goal.overflow_shl-n
 overflow_shl-n c =
     let l = taken c.args.input.now in
-    let answered = ap answer_of (sym c.in-Good.is) ∙ c.check.ensures in
+    let answered = c.in-Ok.ensures in
     omega (arith, options_are l _ answered, (acc l _ answered).few_options)
 
 pub tell_image-requires : goal.tell_image-requires
 tell_image-requires c =
     let l = taken c.args.input.now in
-    let answered = ap answer_of (sym c.in-Good.is) ∙ c.check.ensures in
+    let answered = c.in-Ok.ensures in
     let n_is = shifted l _ answered in
     record {
       few = omega (arith, n_is, settings_few l _ answered);
@@ -75,13 +75,13 @@ tell_image-requires c =
       fits = c.requires;
     }
 
-pub returns-in-Refused : goal.returns-in-Refused
-returns-in-Refused c =
+pub returns-in-Err : goal.returns-in-Err
+returns-in-Err c =
     let input : Bytes = c.args.input.now in
-    let refuses = ap answer_of (sym c.in-Refused.is) ∙ c.check.ensures in
-    same (tell_check (taken input) (set_in input) (budget_in input) _ refuses ∙ sym (long_enough input c.if-input-lt12.false)) c.put_refusal-in-Refused.ensures
+    let refuses = c.in-Err.ensures in
+    same (tell_check (taken input) (set_in input) (budget_in input) _ refuses ∙ sym (long_enough input c.if-input-lt12.false)) c.put_refusal-in-Err.ensures
 
-pub returns-in-Good : goal.returns-in-Good
-returns-in-Good c =
+pub returns-in-Ok : goal.returns-in-Ok
+returns-in-Ok c =
     let input : Bytes = c.args.input.now in
     same (ap₂ (run_text (taken input)) c.set_in.ensures c.budget_in.ensures ∙ sym (long_enough input c.if-input-lt12.false)) c.tell_image.ensures

@@ -38,18 +38,13 @@ put_lines-at-requires c =
       fits = omega (arith, lent.outcomes_length, kept.outcomes, pre.few, pre.fits);
     }
 
-pub put_ends-requires : goal.put_ends-requires
-put_ends-requires c =
-    let put = c.put_lines-at in
-    omega (arith, put.ensures.upper_bound, put.auto.out, c.requires.fits)
+pub returns-in-Err : goal.returns-in-Err
+returns-in-Err c =
+    same (tell_refused c.args.image.now _ _ c.requires c.in-Err.ensures) c.put_refusal.ensures
 
-pub returns-in-Refused : goal.returns-in-Refused
-returns-in-Refused c =
-    same (tell_refused c.args.image.now _ _ c.requires c.in-Refused.ensures) c.put_refusal.ensures
-
-pub returns-in-Ended : goal.returns-in-Ended
-returns-in-Ended c =
+pub returns-in-Ok : goal.returns-in-Ok
+returns-in-Ok c =
     let run = c.shared_run in
     let left = tally run.new.outcomes run.new.codes run.new.steps in
     let all = ap (λ n. tallied n left) (run.auto.outcomes ∙ (lengths c.requires).outcomes_length) in
-    same (tell_ended c.args.image.now _ _ c.requires c.in-Ended.ensures) (then (same all c.put_lines-at.ensures.puts) c.put_ends.ensures)
+    same (tell_ended c.args.image.now _ _ c.requires c.in-Ok.ensures) (then (same all c.put_lines-at.ensures.puts) c.put_ends.ensures)

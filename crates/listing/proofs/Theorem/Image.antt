@@ -36,6 +36,9 @@ known C n ν fits z = go (eqb ν.kind 0) refl
     go true e = let k : layout 0 ≡ 0 = ap layout (sym (eqb-true ν.kind 0 e)) ∙ z in omega (arith, k)
     go false e = false≢true (rw z at (fitted C n ν fits e).known)
 
+pub kind_known : {l : Bytes} {n : ℕ} {ν : Node} → Accepted l → n < (header l).nodes → ν ≡ node l n → layout ν.kind ≡ 0 → ⊥
+kind_known {l} {n} acc h is = rw is (known (header l).conditions n (node l n) (acc.nodes_fit n h))
+
 -- ---- nodes
 
 module _ (l : Bytes) (n : ℕ) where

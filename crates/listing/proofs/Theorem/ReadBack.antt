@@ -1,18 +1,19 @@
 -- What was listed reads back: "The lister prints one spelling per tree, and reading it gives back F and the tree with its conditions written out."
-use Rattle.std.specs.Prelude.{◌≡◌, ℕ, ◌≤◌, List, [], ◌∷◌, ◌++◌, length}
-use Rattle.std.proofs.Common.{sym, ◌∙◌, arith}
+use Rattle.std.specs.Prelude.{◌≡◌, ℕ, ◌≤◌, ◌++◌, length}
+use Rattle.std.proofs.Common.{Ok, ◌∙◌, arith}
 use Rattle.std.proofs.Math.Path.{ap}
 use Rattle.std.proofs.Math.ListN.{take, drop}
 use Rattle.std.proofs.Math.Seq.{take-append_seam}
 use borrow.Author.Tests.{ltb-false}
 use Rattle.image.specs.Bytes.{Bytes, over}
 use Rattle.image.specs.Records.{header}
-use Rattle.image.specs.Rows.{Row, refused, answer, judge, NoneFails, check_rows}
+use Rattle.image.specs.Rows.{NoneFails, check_rows}
 use Rattle.image.specs.Accepted.{Accepted}
 use Rattle.image.specs.Tree.{routine}
 use Rattle.image.specs.Listing.{sizeˢ}
 use Rattle.image.proofs.Theorem.Accepted.{accepted}
-use Rattle.image.proofs.Theorem.Given.{answered, carried_out, by_answer, written_as_judged}
+use Rattle.image.proofs.Theorem.Given.{carried_out}
+use Rattle.image.proofs.Theorem.Carried.{none_each, carried, written_new}
 use Rattle.written.specs.Count.{recordsˢ}
 use Rattle.written.specs.Limits.{NODES, RECORDS}
 use Rattle.written.specs.Image.{written_image}
@@ -20,23 +21,18 @@ use Rattle.written.specs.Told.{Holds}
 use Rattle.written.proofs.Theorem.Listing.{listed_is}
 use Rattle.written.proofs.Theorem.ImageTree.{routine_under, routine_valid, routine_size}
 use Rattle.written.proofs.Theorem.ImageRead.{image_read}
-use Rattle.listing.specs.declared.Listed.TheVariants.{Length}
 use Rattle.listing.specs.Lists.{listing_of, text_rows, list_rows, Lists}
 
--- of a table none fails, so none does of its two parts
-parted : (a b : List Row) → NoneFails (a ++ b) → NoneFails a × NoneFails b
-parted [] b h = (tt, h)
-parted (r ∷ a) b h =
-    let rest = parted a b h.1 in
-    ((h.0, rest.0), rest.1)
-
-module _ (l out out' : Bytes) (n : ℕ) (told : Lists (list_rows l (length out)) l out out' (Length n)) where
+module _ (l out out' : Bytes) (n : ℕ) (told : Lists (list_rows l (length out)) l out out' (Ok n)) where
   abbrev text : Bytes
   text = listing_of l
 
+  all_told : NoneFails (list_rows l (length out)) × (n ≡ length text)
+  all_told = carried (list_rows l (length out)) (length text) n told.answered
+
   none : NoneFails (check_rows l) × NoneFails (text_rows l (length out))
   unfolding list_rows
-  none = parted (check_rows l) (text_rows l (length out)) (answered (length text) (list_rows l (length out)) n (sym told.answered))
+  none = none_each (check_rows l) (text_rows l (length out)) all_told.0
 
   -- only an accepted image of at most 256 records is listed
   pub was_accepted : Accepted l
@@ -46,19 +42,12 @@ module _ (l out out' : Bytes) (n : ℕ) (told : Lists (list_rows l (length out))
   unfolding text_rows
   few_records = ltb-false RECORDS (recordsˢ (routine l)) none.1.0
 
-  carried : judge (list_rows l (length out)) (length text) ≡ answer (length text)
-  unfolding list_rows
-  carried = (carried_out (length text) (list_rows l (length out))).1 (answered (length text) (list_rows l (length out)) n (sym told.answered))
-
-  long : n ≡ length text
-  long = ap (λ a. elim a [ refused k p ↦ 0 | answer m ↦ m ]) (told.answered ∙ carried)
-
   -- the bytes written are the listing
   pub found : take n out' ≡ text
   unfolding over
   found =
-      ap (take n) (told.out_is ∙ written_as_judged (list_rows l (length out)) (length text) (over text out) out ∙ ap (λ a. by_answer a (over text out) out) carried)
-      ∙ ap (λ k. take k (text ++ drop (length text) out)) long
+      ap (take n) (told.out_is ∙ written_new (list_rows l (length out)) _ _ all_told.0)
+      ∙ ap (λ k. take k (text ++ drop (length text) out)) all_told.1
       ∙ take-append_seam text (drop (length text) out)
 
   pub few_nodes : sizeˢ (routine l) ≤ NODES

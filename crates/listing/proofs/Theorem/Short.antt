@@ -1,7 +1,7 @@
 -- Whether a statement is short, by its kind and that of the node in its field a.
-use Rattle.std.specs.Prelude.{◌≡◌, ℕ, ◌<◌, true, false, ltb}
+use Rattle.std.specs.Prelude.{◌≡◌, ◌⊎◌, ℕ, ◌<◌, true, false, ltb}
 use Rattle.std.proofs.Math.Path.{refl, ap}
-use Rattle.std.proofs.Common.{arith}
+use Rattle.std.proofs.Common.{arith, inl, inr}
 use Rattle.image.specs.Bytes.{Bytes}
 use Rattle.image.specs.Records.{header, node}
 use Rattle.image.specs.Layout.{kinds, layout, class_digit, names_node}
@@ -64,6 +64,10 @@ module _ (l : Bytes) (acc : Accepted l) (n : ℕ) (h : n < (header l).nodes) whe
   unfolding layout kinds names_node
   throw_child e = child_a l (header l).conditions n (acc.nodes_fit n h) (acc.nodes_classed n h) 21 e refl
 
+  pub held : ((node l n).kind ≡ 17) ⊎ ((node l n).kind ≡ 21) → Child l n 1 a
+  held (inl e) = assign_child e
+  held (inr e) = throw_child e
+
   pub assign_short : (node l n).kind ≡ 17 → short (read l n).statement ≡ shortᵃ (read l a).arithmetic
   unfolding short
   assign_short e = ap short (assign_at l n e (assign_child e).is_lower)
@@ -71,3 +75,7 @@ module _ (l : Bytes) (acc : Accepted l) (n : ℕ) (h : n < (header l).nodes) whe
   pub throw_short : (node l n).kind ≡ 21 → short (read l n).statement ≡ shortᵃ (read l a).arithmetic
   unfolding short
   throw_short e = ap short (throw_at l n e (throw_child e).is_lower)
+
+  pub held_short : ((node l n).kind ≡ 17) ⊎ ((node l n).kind ≡ 21) → short (read l n).statement ≡ shortᵃ (read l a).arithmetic
+  held_short (inl e) = assign_short e
+  held_short (inr e) = throw_short e

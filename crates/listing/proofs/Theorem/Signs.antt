@@ -1,10 +1,14 @@
 -- Laws of signs: a text sign by sign, and that a part's sign stands only where the kind has that part.
-use Rattle.std.specs.Prelude.{◌≡◌, Bool, true, ◌&&◌, eqb, length, get_or, take}
+use Rattle.std.specs.Prelude.{◌≡◌, Bool, true, eqb, length, get_or, take}
+use Rattle.std.specs.List.{list_all}
 use Rattle.std.proofs.Math.Path.{refl, sym, ap}
 use Rattle.std.proofs.Common.{◌∙◌, take_all, eqb-true}
 use Prim.Native.Nat.{ℕ, zero, suc, ◌+◌, ◌≤◌, ◌<◌}
 use mathlib.Core.List.{List, [], ◌∷◌, ◌++◌, append-nil, append_assoc}
 use native.Mathlib.Omega.{arith}
+use Rattle.std.proofs.lemmas.List.{get_or_default}
+use Rattle.std.proofs.lemmas.List.Elements.{All-get_or}
+use Rattle.std.proofs.lemmas.List.Sums.{AllPass-from_list_all}
 use Rattle.std.proofs.Math.ListN.{length-append, get_or-eq_default}
 use Rattle.image.specs.Bytes.{Bytes}
 use Rattle.image.specs.Layout.{kinds, layout, names_node, is_choice, condition_kinds, condition_layout}
@@ -37,17 +41,13 @@ module _ (p : Parts) where
 
 -- ---- what each sign of a spelling asks for
 
-abbrev all : (ℕ → Bool) → Bytes → Bool
-all f [] = true
-all f (s ∷ signs) = f s && all f signs
-
-all_at : (f : ℕ → Bool) → f DOT ≡ true → (signs : Bytes) → all f signs ≡ true → (i : ℕ) → f (get_or signs i DOT) ≡ true
+all_at : (f : ℕ → Bool) → f DOT ≡ true → (signs : Bytes) → list_all f signs ≡ true → (i : ℕ) → f (get_or signs i DOT) ≡ true
 all_at f d [] h i = d
-all_at f d (s ∷ signs) h zero = (both (f s) (all f signs) h).0
-all_at f d (s ∷ signs) h (suc i) = all_at f d signs (both (f s) (all f signs) h).1 i
+all_at f d (s ∷ signs) h zero = (both (f s) (list_all f signs) h).0
+all_at f d (s ∷ signs) h (suc i) = all_at f d signs (both (f s) (list_all f signs) h).1 i
 
 abbrev Claim : ℕ → Type 0
-Claim κ = (layout κ ≡ 0 → ⊥) → all (asks κ) (spelling κ) ≡ true
+Claim κ = (layout κ ≡ 0 → ⊥) → list_all (asks κ) (spelling κ) ≡ true
 
 table : (κ : ℕ) → Claim κ
 unfolding asks layout kinds names_node is_choice spelling spellings
@@ -58,7 +58,7 @@ pub asked : (κ : ℕ) → (layout κ ≡ 0 → ⊥) → (i : ℕ) → asks κ (
 unfolding asks
 asked κ known i = all_at (asks κ) refl (spelling κ) (table κ known) i
 
-condition_table : (κ : ℕ) → κ < 6 → all (condition_asks κ) (condition_spelling κ) ≡ true
+condition_table : (κ : ℕ) → κ < 6 → list_all (condition_asks κ) (condition_spelling κ) ≡ true
 unfolding condition_asks condition_layout condition_kinds condition_spelling condition_spellings
 condition_table zero h = refl
 condition_table (suc zero) h = refl
@@ -74,25 +74,18 @@ condition_asked κ known i = all_at (condition_asks κ) refl (condition_spelling
 
 -- ---- a spelling is as long as its row
 
-abbrev all_long : ℕ → List Bytes → Bool
-all_long w [] = true
-all_long w (signs ∷ rest) = eqb (length signs) w && all_long w rest
+abbrev long : ℕ → Bytes → Bool
+long w signs = eqb (length signs) w
 
-row_long : (w : ℕ) (rows : List Bytes) → all_long w rows ≡ true → (k : ℕ) → k < length rows → length (get_or rows k []) ≡ w
-row_long w [] h k low = absurd (omega arith)
-row_long w (signs ∷ rest) h zero low = eqb-true (length signs) w (both (eqb (length signs) w) (all_long w rest) h).0
-row_long w (signs ∷ rest) h (suc k) low = row_long w rest (both (eqb (length signs) w) (all_long w rest) h).1 k (omega arith)
+row_long : (w : ℕ) (rows : List Bytes) → list_all (long w) rows ≡ true → (k : ℕ) → k < length rows → length (get_or rows k []) ≡ w
+row_long w rows h k low =
+    eqb-true (length (get_or rows k [])) w (All-get_or (λ signs. long w signs ≡ true) rows k [] low (AllPass-from_list_all (long w) rows h))
 
-row_whole : (w : ℕ) (rows : List Bytes) → all_long w rows ≡ true → (k : ℕ) → take w (get_or rows k []) ≡ get_or rows k []
+row_whole : (w : ℕ) (rows : List Bytes) → list_all (long w) rows ≡ true → (k : ℕ) → take w (get_or rows k []) ≡ get_or rows k []
 row_whole zero [] h k = refl
 row_whole (suc w) [] h k = refl
 row_whole w (signs ∷ rest) h zero = take_all w signs (omega (arith, row_long w (signs ∷ rest) h 0 (omega arith)))
-row_whole w (signs ∷ rest) h (suc k) = row_whole w rest (both (eqb (length signs) w) (all_long w rest) h).1 k
-
-default_same : (l : Bytes) (i d e : ℕ) → i < length l → get_or l i d ≡ get_or l i e
-default_same [] i d e h = absurd (omega arith)
-default_same (s ∷ l) zero d e h = refl
-default_same (s ∷ l) (suc i) d e h = default_same l i d e (omega arith)
+row_whole w (signs ∷ rest) h (suc k) = row_whole w rest (both (long w signs) (list_all (long w) rest) h).1 k
 
 pub whole : (κ : ℕ) → take 21 (spelling κ) ≡ spelling κ
 unfolding spelling spellings
@@ -105,11 +98,11 @@ condition_whole κ = row_whole 9 condition_spellings refl κ
 -- a sign within its row, read with any default
 pub in_row : (κ i : ℕ) → κ < 24 → i < 21 → get_or (get_or spellings κ []) i 0 ≡ get_or (spelling κ) i DOT
 unfolding spelling spellings
-in_row κ i h low = default_same (get_or spellings κ []) i 0 DOT (omega (arith, row_long 21 spellings refl κ h))
+in_row κ i h low = get_or_default (get_or spellings κ []) i 0 DOT (omega (arith, row_long 21 spellings refl κ h))
 
 pub condition_in_row : (κ i : ℕ) → κ < 6 → i < 9 → get_or (get_or condition_spellings κ []) i 0 ≡ get_or (condition_spelling κ) i DOT
 unfolding condition_spelling condition_spellings
-condition_in_row κ i h low = default_same (get_or condition_spellings κ []) i 0 DOT (omega (arith, row_long 9 condition_spellings refl κ h))
+condition_in_row κ i h low = get_or_default (get_or condition_spellings κ []) i 0 DOT (omega (arith, row_long 9 condition_spellings refl κ h))
 
 pub no_row : (κ i : ℕ) → 24 ≤ κ → get_or (spelling κ) i DOT ≡ DOT
 unfolding spelling spellings

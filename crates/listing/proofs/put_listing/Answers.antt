@@ -1,7 +1,7 @@
 -- `put_listing` meets its contract: its parts one behind the other.
 use native.Mathlib.Omega.{arith}
 use Rattle.text.proofs.Putting.{then, same}
-use Rattle.listing.proofs.Whole.{kept, conditions_are, nodes_are, parts, long}
+use Rattle.listing.proofs.Whole.{kept, nodes_are, parts, long}
 use Rattle.listing.proofs.put_listing.Goals as goal
 
 pub overflow_sub-root : goal.overflow_sub-root
@@ -35,8 +35,8 @@ put-line-requires c =
 pub list_node-end-requires : goal.list_node-end-requires
 list_node-end-requires c =
     let pre = c.requires in
-    record {
-      good = record { accepted = pre.shaped.accepted; conditions_are = conditions_are pre.shaped };
+    rw c.of.ensures.0 (record {
+      accepted = pre.shaped.accepted;
       node_below = omega (arith, nodes_are pre.shaped, pre.shaped.accepted.some_node);
       level_few = omega (arith, nodes_are pre.shaped, pre.shaped.accepted.few_nodes);
       fits = omega (
@@ -50,7 +50,7 @@ list_node-end-requires c =
         kept c.put_decimal-count.ensures,
         kept c.put-line.ensures,
       );
-    }
+    })
 
 pub put-requires : goal.put-requires
 put-requires c =
@@ -62,7 +62,7 @@ put-requires c =
       c.put-word.ensures.next_is,
       c.put_decimal-count.ensures.next_is,
       c.put-line.ensures.next_is,
-      c.list_node-end.ensures.next_is,
+      (rw c.of.ensures.0 at c.list_node-end.ensures).next_is,
       kept c.put-word.ensures,
       kept c.put_decimal-count.ensures,
       kept c.put-line.ensures,
@@ -72,4 +72,4 @@ put-requires c =
 pub returns : goal.returns
 returns c =
     same (parts c.requires.shaped)
-    (then c.put-word.ensures (then c.put_decimal-count.ensures (then c.put-line.ensures (then c.list_node-end.ensures c.put.ensures))))
+    (then c.put-word.ensures (then c.put_decimal-count.ensures (then c.put-line.ensures (then (rw c.of.ensures.0 at c.list_node-end.ensures) c.put.ensures))))

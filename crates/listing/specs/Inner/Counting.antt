@@ -8,18 +8,21 @@ use Rattle.image.specs.Rows.{class}
 use Rattle.image.specs.Accepted.{Accepted}
 use Rattle.image.specs.Tree.{condition, Read, read}
 use Rattle.written.specs.Count.{sizeᶜ, recordsᵃ, recordsᵇ, recordsˢ}
-use Rattle.listing.specs.Inner.Listing.{Good}
 
 -- a number, or 257 if it is more
-unfoldable pub capped : ℕ → ℕ
+abbrev pub capped : ℕ → ℕ
 capped n = min n 257
+
+-- the first n numbers of a table are those of f
+pub record Begins (f : ℕ → ℕ) (n : ℕ) (table : List ℕ) : Type 0 where
+  pub right : (k : ℕ) → k < n → get_or table k 0 ≡ f k
+  pub kept : n ≤ length table
 
 -- ---- conditions
 
 -- the sizes of the first n conditions
-pub record SizesOf (l : Bytes) (n : ℕ) (sizes : List ℕ) : Type 0 where
-  pub right : (k : ℕ) → k < n → get_or sizes k 0 ≡ capped (sizeᶜ (condition l k))
-  pub kept : n ≤ length sizes
+abbrev pub SizesOf : Bytes → ℕ → List ℕ → Type 0
+SizesOf l = Begins (λ k. capped (sizeᶜ (condition l k)))
 
 pub record Sizing (l : Bytes) (k : ℕ) (sizes : List ℕ) : Type 0 where
   pub accepted : Accepted l
@@ -40,23 +43,16 @@ unfoldable pub field_records : (ℕ → ℕ → ℕ) → (ℕ → Condition) →
 field_records at of slot value = cond (names_node slot) (at slot value) (cond (eqb slot 4) (sizeᶜ (of value)) 0)
 
 -- those of the first n nodes
-pub record RecordsOf (l : Bytes) (n : ℕ) (records : List ℕ) : Type 0 where
-  pub right : (k : ℕ) → k < n → get_or records k 0 ≡ capped (node_records l k)
-  pub kept : n ≤ length records
+abbrev pub RecordsOf : Bytes → ℕ → List ℕ → Type 0
+RecordsOf l = Begins (λ k. capped (node_records l k))
 
-pub record Counting (l : Bytes) (conditions n : ℕ) (sizes records : List ℕ) : Type 0 where
-  pub good : Good l conditions
+pub record Counting (l : Bytes) (n : ℕ) (sizes records : List ℕ) : Type 0 where
+  pub accepted : Accepted l
   pub node_below : n < (header l).nodes
-  pub sizes_are : SizesOf l conditions sizes
+  pub sizes_are : SizesOf l (header l).conditions sizes
   pub before : RecordsOf l n records
 
 -- a field's number is in the list that it is looked up in
 pub record Field (slot value : ℕ) (sizes records : List ℕ) : Type 0 where
   pub node_there : names_node slot ≡ true → value < length records
   pub condition_there : slot ≡ 4 → value < length sizes
-
--- all nodes are to be counted
-pub record CountingAll (l : Bytes) (conditions nodes : ℕ) (sizes : List ℕ) : Type 0 where
-  pub good : Good l conditions
-  pub nodes_are : nodes ≡ (header l).nodes
-  pub sizes_are : SizesOf l conditions sizes

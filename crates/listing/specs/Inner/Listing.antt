@@ -12,11 +12,6 @@ use Rattle.image.specs.Tree.{condition, read}
 use Rattle.listing.specs.Inner.Spelling.{plainly, stands}
 use Rattle.listing.specs.Inner.Texts.{node_text, all_short, parts_at, condition_text, condition_parts}
 
--- an image that was accepted, and how many conditions it has
-pub record Good (l : Bytes) (conditions : ℕ) : Type 0 where
-  pub accepted : Accepted l
-  pub conditions_are : conditions ≡ (header l).conditions
-
 -- ---- nodes
 
 -- a sign that is a part stands where its field holds one
@@ -39,14 +34,14 @@ reach ν sign =
     (cond (eqb sign 88) (2 * ν.a + 3)
     (cond (eqb sign 89) (2 * ν.b + 3) 0))))
 
-pub record Listing (l : Bytes) (conditions n level at space : ℕ) : Type 0 where
-  pub good : Good l conditions
+pub record Listing (l : Bytes) (n level at space : ℕ) : Type 0 where
+  pub accepted : Accepted l
   pub node_below : n < (header l).nodes
   pub level_few : level + n ≤ 1024
   pub fits : at + length (node_text l level n) ≤ space
 
-pub record Signing (l : Bytes) (conditions : ℕ) (ν : Node) (flat : Bool) (level sign at space : ℕ) : Type 0 where
-  pub good : Good l conditions
+pub record Signing (l : Bytes) (ν : Node) (flat : Bool) (level sign at space : ℕ) : Type 0 where
+  pub accepted : Accepted l
   pub n : ℕ
   pub is_node : ν ≡ node l n
   pub node_below : n < (header l).nodes
@@ -56,18 +51,18 @@ pub record Signing (l : Bytes) (conditions : ℕ) (ν : Node) (flat : Bool) (lev
   pub fits : at + length (stands (parts_at l level ν) sign) ≤ space
 
 -- a node of a class, of which it is asked whether it is short
-pub record Asking (l : Bytes) (conditions n cls : ℕ) : Type 0 where
-  pub good : Good l conditions
+pub record Asking (l : Bytes) (n cls : ℕ) : Type 0 where
+  pub accepted : Accepted l
   pub node_below : n < (header l).nodes
   pub is_class : class l n ≡ cls
 
-pub record AskingField (l : Bytes) (conditions slot n : ℕ) : Type 0 where
-  pub good : Good l conditions
+pub record AskingField (l : Bytes) (slot n : ℕ) : Type 0 where
+  pub accepted : Accepted l
   pub node_below : slot ≡ 3 → n < (header l).nodes
   pub is_class : slot ≡ 3 → class l n ≡ 3
 
-pub record AskingAll (l : Bytes) (conditions : ℕ) (ν : Node) : Type 0 where
-  pub good : Good l conditions
+pub record AskingAll (l : Bytes) (ν : Node) : Type 0 where
+  pub accepted : Accepted l
   pub n : ℕ
   pub is_node : ν ≡ node l n
   pub node_below : n < (header l).nodes

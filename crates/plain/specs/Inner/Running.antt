@@ -12,21 +12,21 @@ use Rattle.plain.specs.Inner.Evaluating.{Evaluating}
 use Rattle.plain.specs.Inner.Progress.{Proper, state_of}
 
 -- a statement is run: node n, from where the setting is
-pub record Running (l : Bytes) (conditions : ℕ) (sets : List ℕ) (s n : ℕ) (p : Progress) (numbers : List ℤ) : Type 0 where
-  pub evaluating : Evaluating l conditions sets s n 3 numbers
+pub record Running (l : Bytes) (n : ℕ) (p : Progress) (numbers : List ℤ) : Type 0 where
+  pub evaluating : Evaluating l n 3 numbers
   pub proper : Proper p.outcome p.code
 
 -- a while goes on from its test: live, within the budget
-pub record Repeating (l : Bytes) (conditions : ℕ) (sets : List ℕ) (s test body budget : ℕ) (p : Progress) (numbers : List ℤ) : Type 0 where
-  pub evaluating : Evaluating l conditions sets s test 2 numbers
-  pub running : Running l conditions sets s body p numbers
+pub record Repeating (l : Bytes) (test body budget : ℕ) (p : Progress) (numbers : List ℤ) : Type 0 where
+  pub evaluating : Evaluating l test 2 numbers
+  pub running : Running l body p numbers
   pub is_live : p.outcome ≡ 1
   pub within : p.steps ≤ budget
 
 -- a try's body is run, and then perhaps its handler
-pub record Trying (l : Bytes) (conditions : ℕ) (sets : List ℕ) (s body v handler : ℕ) (p : Progress) (numbers : List ℤ) : Type 0 where
-  pub running : Running l conditions sets s body p numbers
-  pub evaluating : Evaluating l conditions sets s handler 3 numbers
+pub record Trying (l : Bytes) (body v handler : ℕ) (p : Progress) (numbers : List ℤ) : Type 0 where
+  pub running : Running l body p numbers
+  pub evaluating : Evaluating l handler 3 numbers
   pub variable_below : v < 16
 
 -- a try takes a fault

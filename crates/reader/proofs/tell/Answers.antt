@@ -1,12 +1,6 @@
 -- `tell`: the space is as long as the longest image, and the answer is that to the whole stream.
-use mathlib.Core.Path.{sym}
-use native.Mathlib.Omega.{arith}
-use lib.Seq.{length-take-le}
 use Rattle.reader.proofs.Telling.{tells_so}
 use Rattle.reader.proofs.tell.Goals as goal
-
-pub slice_bounds-read-end : goal.slice_bounds-read-end
-slice_bounds-read-end c = sym (length-take-le _ _ (omega arith))
 
 pub returns : goal.returns
 returns c =

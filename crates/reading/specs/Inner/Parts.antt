@@ -1,11 +1,12 @@
 -- The parts of a node, in the order in which they are written: what its kind still wants, with the marks between, and the tree that is made of them.
-use Rattle.std.specs.Prelude.{ℕ, ◌/◌, ◌%◌, Bool, true, false, List, [], ◌∷◌, eqb, pos, get_or}
+use Rattle.std.specs.Prelude.{◌≡◌, ℕ, Bool, true, false, List, [], ◌∷◌, eqb, pos, get_or}
 use Rattle.std.proofs.Math.Option.{Option, none, some}
 use Rattle.imp.specs.Numbers.{signed32}
 use Rattle.imp.specs.Condition.{Condition, trueᶜ}
 use Rattle.imp.specs.Routine.{Arithmetic, number, variable, sum, pick, choiceᵃ, Boolean, falseᵇ, trueᵇ, notᵇ, andᵇ, less, choiceᵇ, Statement, skip, assign, sequence, if, while, throw, try, choice}
 use Rattle.image.specs.Layout.{layout, class_digit, a_digit, b_digit, c_digit}
 use Rattle.image.specs.Tree.{Kind, k_number, k_variable, k_sum, k_pick, k_choiceᵃ, k_falseᵇ, k_trueᵇ, k_notᵇ, k_andᵇ, k_less, k_choiceᵇ, k_skip, k_assign, k_sequence, k_if, k_while, k_throw, k_try, k_choice, k_other, kind_of}
+use Rattle.image.specs.Bytes.{Bytes}
 use Rattle.written.specs.Token.{Lexeme}
 use Rattle.written.specs.Word.{THEN, ELSE, DO, CATCH, WITH, AND, GETS, LEFT, RIGHT, PLUS, BELOW, SEMI, UNBRACE, ASK, COLON, UNBRACKET}
 use Rattle.written.specs.Machine.{statements, arithmetics, booleans, conditions, variables, Stack, mark, want}
@@ -60,56 +61,72 @@ wants F of_boolean g = want F booleans λ e. g (a_boolean e)
 wants F of_statement g = want F statements λ s. g (a_statement s)
 wants F of_condition g = want F conditions λ c. g (a_condition c)
 
--- ---- the marks of a kind: before a, behind a, behind b, behind c, a hexadecimal digit each
+-- ---- the marks of a kind: before a, behind a, behind b, behind c
 
-unfoldable pub words : List (Option Lexeme)
-words =
-    none ∷ some LEFT ∷ some RIGHT ∷ some PLUS ∷ some BELOW ∷ some AND ∷ some ASK ∷ some COLON ∷ some UNBRACKET ∷ some GETS ∷ some SEMI ∷ some UNBRACE ∷ some THEN
-    ∷ some ELSE ∷ some DO ∷ []
+pub record Marking : Type 0 where
+  pub before_a : Option Lexeme
+  pub behind_a : Option Lexeme
+  pub behind_b : Option Lexeme
+  pub behind_c : Option Lexeme
 
-unfoldable pub mark_table : List ℕ
+abbrev pub row : Option Lexeme → Option Lexeme → Option Lexeme → Option Lexeme → Marking
+row w x y z = record { before_a = w; behind_a = x; behind_b = y; behind_c = z }
+
+abbrev pub no_marks : Marking
+no_marks = row none none none none
+
+unfoldable pub mark_table : List Marking
 mark_table =
-    0  -- 0 number
-    ∷ 0  -- 1 variable
-    ∷ 0x0320  -- 2 sum: ( a + b )
-    ∷ 0x1672  -- 3 pick: pick ( a ? b : c )
-    ∷ 0x0678  -- 4 choice of arithmetic: [ a ? b : c ]
-    ∷ 0
-    ∷ 0
-    ∷ 0
-    ∷ 0  -- 8 false
-    ∷ 0  -- 9 true
-    ∷ 0  -- 10 not: not a
-    ∷ 0x1520  -- 11 and: both ( a and b )
-    ∷ 0x0420  -- 12 less: ( a < b )
-    ∷ 0x0678  -- 13 choice of booleans: [ a ? b : c ]
-    ∷ 0
-    ∷ 0
-    ∷ 0  -- 16 skip
-    ∷ 0x9000  -- 17 assign: v := a
-    ∷ 0x0AB0  -- 18 sequence: { a ; b }
-    ∷ 0x0CD0  -- 19 if: if a then b else c
-    ∷ 0x0E00  -- 20 while: while a do b
-    ∷ 0  -- 21 throw: throw a
-    ∷ 0  -- 22 try: try a catch v with b
-    ∷ 0x0678  -- 23 choice of statements: [ a ? b : c ]
+    no_marks  -- 0 number
+    ∷ no_marks  -- 1 variable
+    ∷ row none (some PLUS) (some RIGHT) none  -- 2 sum: ( a + b )
+    ∷ row (some LEFT) (some ASK) (some COLON) (some RIGHT)  -- 3 pick: pick ( a ? b : c )
+    ∷ row none (some ASK) (some COLON) (some UNBRACKET)  -- 4 choice of arithmetic: [ a ? b : c ]
+    ∷ no_marks
+    ∷ no_marks
+    ∷ no_marks
+    ∷ no_marks  -- 8 false
+    ∷ no_marks  -- 9 true
+    ∷ no_marks  -- 10 not: not a
+    ∷ row (some LEFT) (some AND) (some RIGHT) none  -- 11 and: both ( a and b )
+    ∷ row none (some BELOW) (some RIGHT) none  -- 12 less: ( a < b )
+    ∷ row none (some ASK) (some COLON) (some UNBRACKET)  -- 13 choice of booleans: [ a ? b : c ]
+    ∷ no_marks
+    ∷ no_marks
+    ∷ no_marks  -- 16 skip
+    ∷ row (some GETS) none none none  -- 17 assign: v := a
+    ∷ row none (some SEMI) (some UNBRACE) none  -- 18 sequence: { a ; b }
+    ∷ row none (some THEN) (some ELSE) none  -- 19 if: if a then b else c
+    ∷ row none (some DO) none none  -- 20 while: while a do b
+    ∷ no_marks  -- 21 throw: throw a
+    ∷ no_marks  -- 22 try: try a catch v with b
+    ∷ row none (some ASK) (some COLON) (some UNBRACKET)  -- 23 choice of statements: [ a ? b : c ]
     ∷ []
 
-unfoldable pub marks_of : ℕ → ℕ
-marks_of kind = get_or mark_table kind 0
+unfoldable pub marks_of : ℕ → Marking
+marks_of kind = get_or mark_table kind no_marks
 
-abbrev pub marked_by : Option Lexeme → Stack → Stack
-marked_by none s = s
-marked_by (some x) s = mark x s
+-- the bytes of a mark, of which none has none
+abbrev pub text_of : Option Lexeme → Bytes
+text_of none = []
+text_of (some x) = x.head ∷ x.rest
 
--- a mark by its digit, 0 where there is none
-abbrev pub marked : ℕ → Stack → Stack
-marked digit s = marked_by (get_or words digit none) s
+abbrev pub MarksAre : Bytes → Bytes → Bytes → Bytes → Bytes → Bytes → Bytes → Bytes → Type 0
+MarksAre w x y z w' x' y' z' = (w' ≡ w) × (x' ≡ x) × (y' ≡ y) × (z' ≡ z)
+
+abbrev pub MarksOf : ℕ → Bytes → Bytes → Bytes → Bytes → Type 0
+MarksOf kind w x y z =
+    MarksAre (text_of (marks_of kind).before_a) (text_of (marks_of kind).behind_a) (text_of (marks_of kind).behind_b) (text_of (marks_of kind).behind_c) w x y z
+
+-- a mark, where there is one
+abbrev pub marked : Option Lexeme → Stack → Stack
+marked none s = s
+marked (some x) s = mark x s
 
 -- behind a: a try has its variable there, "catch v with"
-abbrev pub behind_a : Bool → ℕ → ℕ → ℕ → (ℕ → Stack) → Stack
-behind_a true F digit value g = mark CATCH (want F variables λ v. mark WITH (g v))
-behind_a false F digit value g = marked digit (g value)
+abbrev pub behind_a : Bool → ℕ → Option Lexeme → ℕ → (ℕ → Stack) → Stack
+behind_a true F o value g = mark CATCH (want F variables λ v. mark WITH (g v))
+behind_a false F o value g = marked o (g value)
 
 -- ---- the tree that is made of its parts; the value is a number's 32 bits or a variable
 
@@ -138,8 +155,8 @@ made_of k_other v a b c = a_statement skip
 -- what is still to come behind the token that opens a node of a kind
 unfoldable pub follow : ℕ → ℕ → ℕ → (Part → Stack) → Stack
 follow F kind value g =
-    marked (marks_of kind / 4096) (wants F (a_slot kind) λ a.
-    behind_a (eqb kind 22) F (marks_of kind / 256 % 16) value λ v.
+    marked (marks_of kind).before_a (wants F (a_slot kind) λ a.
+    behind_a (eqb kind 22) F (marks_of kind).behind_a value λ v.
     wants F (b_slot kind) λ b.
-    marked (marks_of kind / 16 % 16) (wants F (c_slot kind) λ c.
-    marked (marks_of kind % 16) (g (made_of (kind_of kind) v a b c))))
+    marked (marks_of kind).behind_b (wants F (c_slot kind) λ c.
+    marked (marks_of kind).behind_c (g (made_of (kind_of kind) v a b c))))

@@ -1,13 +1,12 @@
 -- What is read of a word and of a number: as far as the text agrees with the word, and as far as digits go.
 use Rattle.std.specs.Prelude.{ℕ, suc, ◌+◌, ◌-◌, ◌*◌, Bool, cond, ◌&&◌, [], ◌∷◌, eqb, leb, ltb}
+use Rattle.std.specs.List.{prefix_len, zip}
 use Rattle.image.specs.Bytes.{Bytes}
 use Rattle.written.specs.Byte.{is_digit}
 
 -- how many bytes of a word a text begins with
-unfoldable pub agree : Bytes → Bytes → ℕ
-agree [] l = 0
-agree (c ∷ x) [] = 0
-agree (c ∷ x) (b ∷ l) = cond (eqb b c) (suc (agree x l)) 0
+abbrev pub agree : Bytes → Bytes → ℕ
+agree x l = prefix_len (λ p. eqb p.1 p.0) (zip x l)
 
 -- one digit more makes no number over hi, and none with a leading zero
 abbrev pub goes_on : ℕ → ℕ → ℕ → Bool

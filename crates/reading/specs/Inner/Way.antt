@@ -1,5 +1,7 @@
 -- How far a reading has come, by the machine of the written form: the answer that a cursor's place leads to, and what leads from cursor to cursor.
-use Rattle.std.specs.Prelude.{◌≡◌, ℕ, ◌+◌, ◌≤◌, cond, List, [], ◌∷◌, eqb, length, drop}
+use Rattle.std.specs.Prelude.{◌≡◌, ℕ, ◌+◌, ◌≤◌, List, [], ◌∷◌, length, drop}
+use Rattle.image.specs.declared.refusals.Refusal.{Refusal}
+use Rattle.image.specs.declared.refusals.Refusal.TheVariants.{TextWrong, TooMany}
 use Rattle.image.specs.Bytes.{Bytes}
 use Rattle.written.specs.Token.{Opens, nothing, node, record_of, Spot}
 use Rattle.written.specs.Machine.{Stack, Log, plain}
@@ -26,10 +28,6 @@ unfoldable pub records_in : List Spot → ℕ
 records_in [] = 0
 records_in (m ∷ ms) = record_in m.does + records_in ms
 
--- nothing has been refused
-abbrev pub Live : Cursor → Type 0
-Live c = c.refused ≡ 0
-
 -- the machine's log at a cursor
 pub record Logged (c : Cursor) (w : Log) : Type 0 where
   pub at_is : w.at ≡ c.at
@@ -37,11 +35,14 @@ pub record Logged (c : Cursor) (w : Log) : Type 0 where
   pub records_are : records_in w.spots ≡ c.records
 
 -- the answer to the text from a cursor on, with a stack of what is still to come
-unfoldable pub told : ℕ → ℕ → Answer → Answer
-told refusal p a = cond (eqb refusal 0) a (cond (eqb refusal 17) (refused_17 p) (refused_18 p))
+abbrev pub here : Bytes → Cursor → Log → Stack → Answer
+here text c w s = from text (drop c.at text) (plain w [] c.tight s) c.at
 
-unfoldable pub here : Bytes → Cursor → Log → Stack → Answer
-here text c w s = told c.refused c.at (from text (drop c.at text) (plain w [] c.tight s) c.at)
+-- an answer is what a refusal says: the text is not of the grammar, or a token is one too many
+abbrev pub Says : Refusal → Answer → Type 0
+Says (TextWrong p) a = a ≡ refused_17 p
+Says (TooMany p) a = a ≡ refused_18 p
+Says _ a = ⊥
 
 -- a cursor in a text, with the limits kept
 pub record Good (text : Bytes) (c : Cursor) : Type 0 where
@@ -53,8 +54,11 @@ pub record Good (text : Bytes) (c : Cursor) : Type 0 where
 pub record Way (text : Bytes) (c c' : Cursor) (A B : Stack) : Type 0 where
   pub forth : c.at ≤ c'.at
   pub good : Good text c'
-  pub was_live : Live c' → Live c
-  pub goes : (w : Log) → (Live c → Logged c w) → (w' : Log) × (Live c' → Logged c' w') × (here text c w A ≡ here text c' w' B)
+  pub goes : (w : Log) → Logged c w → (w' : Log) × Logged c' w' × (here text c w A ≡ here text c' w' B)
+
+-- from c, where A is still to come, the text is refused
+abbrev pub Refuses : Bytes → Cursor → Stack → Refusal → Type 0
+Refuses text c A e = (w : Log) → Logged c w → Says e (here text c w A)
 
 -- what has been opened and written
 pub record Kept (c c' : Cursor) : Type 0 where
@@ -64,5 +68,5 @@ pub record Kept (c c' : Cursor) : Type 0 where
 -- a token read: it opens so many nodes and records
 pub record Opened (c c' : Cursor) (o : Opens) : Type 0 where
   pub kept : Kept c c'
-  pub nodes_opened : Live c' → c'.nodes ≡ c.nodes + node_of o
-  pub records_opened : Live c' → c'.records ≡ c.records + record_in o
+  pub nodes_opened : c'.nodes ≡ c.nodes + node_of o
+  pub records_opened : c'.records ≡ c.records + record_in o

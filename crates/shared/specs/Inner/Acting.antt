@@ -6,15 +6,17 @@ use Rattle.imp.specs.State.{State, store, thrown, taken}
 use Rattle.imp.specs.Shared.{value_in, for, Below}
 use Rattle.image.specs.declared.records.Node.{Node}
 use Rattle.image.specs.Bytes.{Bytes}
+use Rattle.image.specs.Layout.{layout}
 use Rattle.image.specs.Tree.{read}
 use Rattle.plain.specs.declared.progress.Progress.{Progress}
 use Rattle.plain.specs.Inner.Evaluating.{Evaluating}
 use Rattle.plain.specs.Inner.Progress.{Proper}
+use Rattle.shared.specs.declared.lent.Lent.{Lent}
 use Rattle.shared.specs.declared.plan.Plan.{Plan}
-use Rattle.shared.specs.Lent.{Tally}
-use Rattle.shared.specs.Inner.Lent.{Lent, own, as_shared}
+use Rattle.shared.specs.Inner.Lent.{Measured, own}
 use Rattle.shared.specs.Inner.Each.{Only}
-use Rattle.shared.specs.Inner.Prepared.{Prepared, OfClass}
+use Rattle.shared.specs.Inner.Prepared.{OfClass}
+use Rattle.shared.specs.Inner.Handed.{image_in, tally_in, state_in}
 
 -- the change in setting s
 unfoldable pub acting : Bytes → Node → ℕ → State → State
@@ -24,34 +26,35 @@ acting l ν s σ =
 
 -- ---- one setting, on its own sixteen numbers
 
-pub record Acts (l : Bytes) (C : ℕ) (sets : List ℕ) (s : ℕ) (ν : Node) (p : Progress) (ns : List ℤ) : Type 0 where
-  pub expression : (ν.kind ≡ 22 → ⊥) → Evaluating l C sets s ν.a 1 ns
+pub record Acts (l : Bytes) (ν : Node) (p : Progress) (ns : List ℤ) : Type 0 where
+  pub known : layout ν.kind ≡ 0 → ⊥
+  pub expression : (ν.kind ≡ 22 → ⊥) → Evaluating l ν.a 1 ns
   pub variable_below : (ν.kind ≡ 21 → ⊥) → ν.variable < 16
   pub proper : Proper p.outcome p.code
   pub sixteen : length ns ≡ 16
 
 -- ---- one setting of all
 
-pub record Acting (l : Bytes) (plan : Plan) (sets : List ℕ) (ν : Node) (xs : List ℤ) (T : Tally) : Type 0 where
-  pub prepared : Prepared l plan sets
-  pub expression : (ν.kind ≡ 22 → ⊥) → OfClass l ν.a 1
+pub record Acting (plan : Plan) (ν : Node) (L : Lent) : Type 0 where
+  pub known : layout ν.kind ≡ 0 → ⊥
+  pub expression : (ν.kind ≡ 22 → ⊥) → OfClass (image_in plan) ν.a 1
   pub variable_below : (ν.kind ≡ 21 → ⊥) → ν.variable < 16
-  pub lent : Lent plan.settings xs T
+  pub lent : Measured plan.settings L.store.now (tally_in L)
 
-pub record ActingAt (l : Bytes) (plan : Plan) (sets : List ℕ) (ν : Node) (s : ℕ) (xs : List ℤ) (T : Tally) : Type 0 where
-  pub every : Acting l plan sets ν xs T
+pub record ActingAt (plan : Plan) (ν : Node) (s : ℕ) (L : Lent) : Type 0 where
+  pub every : Acting plan ν L
   pub setting_below : s < plan.settings
 
-pub record ActedAt (l : Bytes) (plan : Plan) (ν : Node) (on : Set) (s : ℕ) (xs : List ℤ) (T : Tally) (xs' : List ℤ) (T' : Tally) : Type 0 where
-  pub acted : Only s (bit on.bits) (acting l ν) (own xs T) (own xs' T')
-  pub lent : Lent plan.settings xs' T'
+pub record ActedAt (plan : Plan) (ν : Node) (on : Set) (s : ℕ) (L L' : Lent) : Type 0 where
+  pub acted : Only s (bit on.bits) (acting (image_in plan) ν) (own L.store.now (tally_in L)) (own L'.store.now (tally_in L'))
+  pub lent : Measured plan.settings L'.store.now (tally_in L')
 
 -- ---- the settings of a set
 
-pub record ActingFor (l : Bytes) (plan : Plan) (sets : List ℕ) (ν : Node) (on : Set) (xs : List ℤ) (T : Tally) : Type 0 where
-  pub every : Acting l plan sets ν xs T
+pub record ActingFor (plan : Plan) (ν : Node) (on : Set) (L : Lent) : Type 0 where
+  pub every : Acting plan ν L
   pub below : Below plan.settings (bit on.bits)
 
-pub record ActedFor (l : Bytes) (plan : Plan) (ν : Node) (on : Set) (xs : List ℤ) (T : Tally) (xs' : List ℤ) (T' : Tally) : Type 0 where
-  pub acted : (visits : ℕ) → as_shared xs' T' visits ≡ for (bit on.bits) (acting l ν) (as_shared xs T visits)
-  pub lent : Lent plan.settings xs' T'
+pub record ActedFor (plan : Plan) (ν : Node) (on : Set) (L L' : Lent) : Type 0 where
+  pub acted : (visits : ℕ) → state_in L' visits ≡ for (bit on.bits) (acting (image_in plan) ν) (state_in L visits)
+  pub lent : Measured plan.settings L'.store.now (tally_in L')

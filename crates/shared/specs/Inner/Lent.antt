@@ -25,6 +25,6 @@ pub record Tallied (N : ℕ) (T : Tally) : Type 0 where
   pub proper : (s : ℕ) → Proper (progress T s).outcome (progress T s).code
 
 -- "a store of 16N numbers", and N of each of the others
-pub record Lent (N : ℕ) (xs : List ℤ) (T : Tally) : Type 0 where
+pub record Measured (N : ℕ) (xs : List ℤ) (T : Tally) : Type 0 where
   pub store_length : length xs ≡ N * 16
   pub tallied : Tallied N T

@@ -1,16 +1,14 @@
--- `all_hold` meets its contract: before turn s, what is good is every setting below s, and the sum is that of their steps.
-use mathlib.Core.Path.{◌≡◌}
-use Prim.Native.Nat.{◌-◌, ◌*◌, ◌≤◌}
-use lib.ListN.{length, get_or}
-use Rattle.imp.specs.Shared.{total}
-use Rattle.shared.specs.Lent.{tally, progress, part}
-use Rattle.acceptance.specs.Inner.Comparing.{every, setting_holds}
+-- `all_hold` meets its contract: before the chunk of setting s, what is good is every setting below s, and the sum is that of their steps.
+use Rattle.std.specs.Prelude.{◌≡◌}
+use Rattle.std.specs.Iterator.Adapters.{enumerate_source, enumerate_count}
+use Rattle.std.specs.Slice.Iter.{chunks_exact_rest, chunks_exact_size}
+use Rattle.shared.specs.Lent.{tally}
+use Rattle.acceptance.proofs.Seen.{Seen}
 use Rattle.acceptance.proofs.compare.all_hold.Given as goal
 
 abbrev pub invariant-loop-s : goal.invariant-loop-s
-invariant-loop-s l = (l.s ≤ l.s-end) × (l.s-end ≡ length l.outcomes) × (l.sum ≤ l.s * 4294967296)
-    × (l.sum ≡ total l.s (λ t. get_or l.steps t 0))
-    × (l.good ≡ every l.s (λ t. setting_holds l.image l.set.bits l.budget l.visits t (progress (tally l.outcomes l.codes l.steps) t) (part l.store t)))
-
-abbrev pub decreases-loop-s : goal.decreases-loop-s
-decreases-loop-s l = l.s-end - l.s
+invariant-loop-s l =
+    (goal.iterator-loop-s).can_next l.s-iterator × (goal.iterator-loop-s).is_finite l.s-iterator
+    × (chunks_exact_size (enumerate_source l.s-iterator) ≡ 16)
+    × Seen l.image l.set.bits l.budget l.visits l.store (tally l.outcomes l.codes l.steps)
+    (enumerate_count l.s-iterator) (chunks_exact_rest (enumerate_source l.s-iterator)) l.sum l.good

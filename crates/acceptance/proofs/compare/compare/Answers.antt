@@ -1,7 +1,8 @@
 -- `compare` meets its contract: what it lends has the lengths for as many settings as there are, and then condition 3 makes each comparison true.
+use Rattle.std.specs.Prelude.{Option}
 use mathlib.Core.Path.{◌≡◌, refl, sym, ◌∙◌}
 use mathlib.Core.List.{List}
-use Prim.Native.Nat.{ℕ, ◌*◌, ◌≤◌}
+use Prim.Native.Nat.{ℕ, ◌≤◌}
 use native.Mathlib.Omega.{arith}
 use lib.IntN.{ℤ}
 use lib.ListN.{length, take}
@@ -10,10 +11,9 @@ use Rattle.image.specs.Bytes.{Bytes}
 use Rattle.image.specs.Rows.{written, check_rows}
 use Rattle.image.specs.Sets.{settings}
 use Rattle.shared.specs.Lent.{tally}
-use Rattle.acceptance.specs.declared.compare.Verdict.{Verdict}
+use Rattle.acceptance.specs.declared.compare.Compared.{Compared}
 use Rattle.acceptance.specs.Inner.Comparing.{compared}
 use Rattle.acceptance.specs.Inner.Expected.{expected}
-use Rattle.acceptance.specs.Inner.Lengths.{Lengths}
 use Rattle.acceptance.specs.Theorem.Answered.{always}
 use Rattle.acceptance.proofs.compare.compare.Goals as goal
 
@@ -29,26 +29,13 @@ module _ (n : ℕ) (outcomes : List ℕ) (codes : List ℤ) (steps : List ℕ) (
   steps_taken : length (take n steps) ≡ n
   steps_taken = length-take-le n steps (omega arith)
 
-  lengths : (store : List ℤ) → length store ≡ 1024 → Lengths (length (take n outcomes)) (length (take (n * 16) store)) (length (take n codes)) (length (take n steps))
-  lengths store long_store =
-      let store_taken = length-take-le (n * 16) store (omega arith) in
-      record {
-        few = omega (arith, outcomes_taken);
-        store_is = omega (arith, outcomes_taken, store_taken);
-        codes_are = codes_taken ∙ sym outcomes_taken;
-        steps_are = steps_taken ∙ sym outcomes_taken;
-      }
-
-  as_expected : (l : Bytes) (set budget : ℕ) {r : Verdict} → n ≡ written (check_rows l) (settings l) 0
+  as_expected : (l : Bytes) (set budget : ℕ) {r : Option Compared} → n ≡ written (check_rows l) (settings l) 0
       → r ≡ compared (length (take n outcomes)) l set budget (tally (take n outcomes) (take n codes) (take n steps)) → r ≡ expected l set budget
   as_expected l set budget are e =
       e
       ∙ always l set budget (tally (take n outcomes) (take n codes) (take n steps)) (length (take n outcomes)) (outcomes_taken ∙ are) refl
       (codes_taken ∙ sym outcomes_taken)
       (steps_taken ∙ sym outcomes_taken)
-
-pub compare_lent-requires : goal.compare_lent-requires
-compare_lent-requires c = lengths c.settings-n.result _ _ _ c.settings-n.ensures.upper_bound refl refl refl _ refl
 
 pub returns : goal.returns
 returns c =

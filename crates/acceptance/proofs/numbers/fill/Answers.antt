@@ -6,7 +6,6 @@ use native.Mathlib.Omega.{arith}
 use lib.IntN.{ℤ}
 use lib.ListN.{length, take, set}
 use lib.Seq.{take_all, take-suc-set}
-use borrow.Author.Rules.{rules}
 use mir.Syntax.{w32}
 use mir.Facts.{to_z-of_z}
 use Rattle.shared.specs.SharedRun.{each}
@@ -21,30 +20,16 @@ one_more at v ns z h e same =
     let next : v + 1 ≡ suc v = omega arith in
     rw next (take-suc-set ns v z h ∙ (λ i. e i ++ (same i ∷ [])))
 
-pub returns : goal.returns
-returns c =
-    let whole = c.loop-v.invariant.2 in
-    let all : c.loop-v.v ≡ length c.args.numbers.now = omega arith in
-    sym (take_all c.loop-v.v c.loop-v.numbers (omega arith)) ∙ c.loop-v.invariant.3 ∙ ap (starts _) all
+pub loop-v-init : goal.loop-v-init
+unfolding starts each
+loop-v-init c = refl
 
 pub loop-v-preserved : goal.loop-v-preserved
 loop-v-preserved c =
-    let z = c.first in (
-      omega arith,
-      omega arith,
-      search rules,
-      one_more _ c.loop-v.v c.loop-v.numbers _ (omega arith) c.loop-v.invariant.3 (to_z-of_z {w = w32} (record { sfits = z.type_inv }) ∙ z.ensures),
-    )
+    let z = c.first in
+    one_more _ c.loop-v.v c.loop-v.numbers _ (omega arith) c.loop-v.invariant (to_z-of_z {w = w32} (record { sfits = z.type_inv }) ∙ z.ensures)
 
-pub loop-v-init : goal.loop-v-init
-unfolding starts each
-loop-v-init c = (omega arith, refl, refl, refl)
-
-pub overflow_add-at : goal.overflow_add-at
-overflow_add-at c = omega arith
-
-pub overflow_step-v : goal.overflow_step-v
-overflow_step-v c = omega arith
-
-pub loop-v-smaller : goal.loop-v-smaller
-loop-v-smaller c = omega arith
+pub returns : goal.returns
+returns c =
+    let all : c.loop-v.v ≡ length c.args.numbers.now = omega arith in
+    sym (take_all c.loop-v.v c.loop-v.numbers (omega arith)) ∙ c.loop-v.invariant ∙ ap (starts _) all

@@ -1,39 +1,14 @@
--- `fill` meets its contract: eight stores into a space of eight are the eight numbers.
-use mathlib.Core.Path.{◌≡◌, sym, ◌∙◌, ap}
-use mathlib.Core.List.{List, [], ◌∷◌, ◌++◌, append-nil}
-use Prim.Native.Nat.{ℕ, ◌+◌}
-use native.Mathlib.Omega.{arith}
-use lib.ListN.{length, drop}
-use lib.Seq.{sets, sets-eq, lt-length-sets, drop-length}
-use Rattle.calls.specs.Space.{all_numbers}
+-- `fill` meets its contract: number and place are stored first, and the values over all that is left.
+use Rattle.std.proofs.Common.{◌≡◌, ◌∙◌, ap, List, [], ◌∷◌, ◌++◌, ℕ, ◌-◌, length, slice_set, arith, rules, append-nil}
+use Rattle.std.proofs.lemmas.List.{drop_all}
+use borrow.Rule.Slice.PartMut.{put_mid}
 use Rattle.calls.proofs.reply.fill.Goals as goal
 
--- stores into the whole of a space leave nothing of it
-all_of : (vs l : List ℕ) → length vs ≡ length l → sets l 0 vs ≡ vs
-all_of vs l e =
-    let none : 0 + length vs ≡ length l = omega arith in
-    sets-eq vs l 0 (omega arith) ∙ ap (λ k. vs ++ drop k l) none ∙ ap (λ r. vs ++ r) (drop-length l) ∙ append-nil vs
+rest_is : (l xs : List ℕ) (n p : ℕ) → length l ≡ 8
+    → put_mid 2 (length (slice_set (slice_set l 0 n) 1 p) - 2) (slice_set (slice_set l 0 n) 1 p) xs ≡ n ∷ p ∷ xs
+rest_is [] xs n p e = absurd (omega arith)
+rest_is (a ∷ []) xs n p e = absurd (omega arith)
+rest_is (a ∷ b ∷ l) xs n p e = ap (λ ys. n ∷ p ∷ (xs ++ ys)) (drop_all (length (n ∷ p ∷ l) - 2) l (omega arith)) ∙ ap (λ ys. n ∷ p ∷ ys) (append-nil xs)
 
 pub returns : goal.returns
-returns c = all_of (all_numbers c.args.r) c.args.answer.now (sym c.requires)
-
-pub bounds-answer-4 : goal.bounds-answer-4
-bounds-answer-4 c =
-    let r = c.args.r in
-    lt-length-sets c.args.answer.now 0 (r.number ∷ r.place ∷ r.first ∷ r.second ∷ []) (omega (arith, c.requires))
-
-pub bounds-answer-5 : goal.bounds-answer-5
-bounds-answer-5 c =
-    let r = c.args.r in
-    lt-length-sets c.args.answer.now 0 (r.number ∷ r.place ∷ r.first ∷ r.second ∷ r.third ∷ []) (omega (arith, c.requires))
-
-pub bounds-answer-6 : goal.bounds-answer-6
-bounds-answer-6 c =
-    let r = c.args.r in
-    lt-length-sets c.args.answer.now 0 (r.number ∷ r.place ∷ r.first ∷ r.second ∷ r.third ∷ r.fourth ∷ []) (omega (arith, c.requires))
-
-pub bounds-answer-7 : goal.bounds-answer-7
-bounds-answer-7 c =
-    let r = c.args.r in
-    let stored = r.number ∷ r.place ∷ r.first ∷ r.second ∷ r.third ∷ r.fourth ∷ r.fifth ∷ [] in
-    lt-length-sets c.args.answer.now 0 stored (omega (arith, c.requires))
+returns c = search (rest_is, rules)

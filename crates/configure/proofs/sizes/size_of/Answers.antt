@@ -10,6 +10,7 @@ use Rattle.image.specs.Records.{header, node}
 use Rattle.image.specs.Layout.{layout, a_digit, b_digit, c_digit, names_node, is_choice}
 use Rattle.image.specs.Term.{size, branch_size}
 use Rattle.image.specs.Inner.Lower.{Lower}
+use Rattle.image.specs.Inner.Ready.{Ready}
 use Rattle.image.proofs.Theorem.Lower.{lower}
 use Rattle.configure.specs.Inner.Term.{hang, term_at}
 use Rattle.configure.specs.Inner.Sizing.{SizesOf, Sizing}
@@ -27,18 +28,18 @@ slot_is l s n sizes true v before low = before.right v (low refl)
 slot_is l s n sizes false v before low = refl
 
 -- what is known once the node is read
-module _ (l : List ℕ) {conditions : ℕ} {condition_sets : List ℕ} (s n : ℕ) {sizes : List ℕ} (pre : Sizing l conditions condition_sets s n sizes) where
+module _ (l : List ℕ) {conditions : ℕ} {condition_sets : List ℕ} (s n : ℕ) {sizes : List ℕ} (ready : Ready l conditions condition_sets s) (pre : Sizing l s n sizes) where
   low : Lower n (node l n)
-  low = lower (header l).conditions n (node l n) (pre.ready.accepted.nodes_fit n pre.node_below)
+  low = lower (header l).conditions n (node l n) (ready.accepted.nodes_fit n pre.node_below)
 
   -- ---- a choice
 
   module _ (choice : is_choice (node l n).kind ≡ true) where
     b_below : (node l n).b < n
-    b_below = choice_b l pre.ready.accepted n pre.node_below choice
+    b_below = choice_b l ready.accepted n pre.node_below choice
 
     c_below : (node l n).c < n
-    c_below = choice_c l pre.ready.accepted n pre.node_below choice
+    c_below = choice_c l ready.accepted n pre.node_below choice
 
     part_below : (part : ℕ) → part ≡ cond (bit (get_or condition_sets (node l n).a 0) s) (node l n).b (node l n).c → part < n
     part_below part e = rw e (chosen_lower (bit (get_or condition_sets (node l n).a 0) s) (node l n).b (node l n).c n b_below c_below)
@@ -47,7 +48,7 @@ module _ (l : List ℕ) {conditions : ℕ} {condition_sets : List ℕ} (s n : �
     part_size : (part : ℕ) → part ≡ cond (bit (get_or condition_sets (node l n).a 0) s) (node l n).b (node l n).c
         → get_or sizes part 0 ≡ size (term_at l s n)
     part_size part e =
-        let held = chosen_is l _ _ s _ pre.ready (choice_condition l pre.ready.accepted n pre.node_below choice) in
+        let held = chosen_is l _ _ s _ ready (choice_condition l ready.accepted n pre.node_below choice) in
         pre.before.right part (part_below part e)
         ∙ ap (λ x. size (term_at l s x)) (e ∙ ap (λ u. cond u (node l n).b (node l n).c) held)
         ∙ sym (ap size (choice_term l s n choice b_below c_below))
@@ -119,53 +120,48 @@ module _ (l : List ℕ) {conditions : ℕ} {condition_sets : List ℕ} (s n : �
         whole = rw (node_term l s n (is_read no_choice) low.a_lower low.b_lower low.c_lower) (omega (arith, in_a, in_b, in_c))
 
         total_small : x + y + z + 1 ≤ 1024
-        total_small = omega (arith, whole, size_small l pre.ready.accepted s n pre.node_below, pre.ready.accepted.few_nodes)
-
-pub node_at-node-requires : goal.node_at-node-requires
-node_at-node-requires c =
-    let pre = c.requires in
-    (pre.ready.conditions_are, omega (arith, pre.ready.conditions_are, pre.ready.accepted.length_is, pre.node_below))
+        total_small = omega (arith, whole, size_small l ready.accepted s n pre.node_below, ready.accepted.few_nodes)
 
 pub offset_bounds-sizes-part : goal.offset_bounds-sizes-part
 offset_bounds-sizes-part c =
     let a = c.args in
-    omega (arith, part_there a.image.now a.s a.n c.requires c.node_at-node.ensures c.chosen-part.ensures (sym c.is_choice.ensures ∙ c.if-is_choice.true))
+    omega (arith, part_there a.setting.now.routine.image.now a.setting.now.s a.n c.args.setting.now.ready c.requires c.node-node.ensures c.chosen-part.ensures (sym c.is_choice.ensures ∙ c.if-is_choice.true))
 
 pub bounds-sizes-part : goal.bounds-sizes-part
 bounds-sizes-part c =
     let a = c.args in
-    part_there a.image.now a.s a.n c.requires c.node_at-node.ensures c.chosen-part.ensures (sym c.is_choice.ensures ∙ c.if-is_choice.true)
+    part_there a.setting.now.routine.image.now a.setting.now.s a.n c.args.setting.now.ready c.requires c.node-node.ensures c.chosen-part.ensures (sym c.is_choice.ensures ∙ c.if-is_choice.true)
 
 pub returns-then-is_choice : goal.returns-then-is_choice
 returns-then-is_choice c =
     let a = c.args in
-    part_counted a.image.now a.s a.n c.requires c.node_at-node.ensures c.chosen-part.ensures (sym c.is_choice.ensures ∙ c.if-is_choice.true)
+    part_counted a.setting.now.routine.image.now a.setting.now.s a.n c.args.setting.now.ready c.requires c.node-node.ensures c.chosen-part.ensures (sym c.is_choice.ensures ∙ c.if-is_choice.true)
 
 pub slot_size-in_a-requires : goal.slot_size-in_a-requires
-slot_size-in_a-requires c = a_there c.args.image.now c.args.s c.args.n c.requires c.node_at-node.ensures c.layout-digits.ensures
+slot_size-in_a-requires c = a_there c.args.setting.now.routine.image.now c.args.setting.now.s c.args.n c.args.setting.now.ready c.requires c.node-node.ensures c.layout-digits.ensures
 
 pub slot_size-in_b-requires : goal.slot_size-in_b-requires
-slot_size-in_b-requires c = b_there c.args.image.now c.args.s c.args.n c.requires c.node_at-node.ensures c.layout-digits.ensures
+slot_size-in_b-requires c = b_there c.args.setting.now.routine.image.now c.args.setting.now.s c.args.n c.args.setting.now.ready c.requires c.node-node.ensures c.layout-digits.ensures
 
 pub slot_size-in_c-requires : goal.slot_size-in_c-requires
-slot_size-in_c-requires c = c_there c.args.image.now c.args.s c.args.n c.requires c.node_at-node.ensures c.layout-digits.ensures
+slot_size-in_c-requires c = c_there c.args.setting.now.routine.image.now c.args.setting.now.s c.args.n c.args.setting.now.ready c.requires c.node-node.ensures c.layout-digits.ensures
 
 pub overflow_add-result : goal.overflow_add-result
 overflow_add-result c =
     let no_choice = sym c.is_choice.ensures ∙ c.if-is_choice.false in
-    omega (arith, total_small c.args.image.now c.args.s c.args.n c.requires c.node_at-node.ensures c.layout-digits.ensures c.slot_size-in_a.ensures c.slot_size-in_b.ensures c.slot_size-in_c.ensures no_choice)
+    omega (arith, total_small c.args.setting.now.routine.image.now c.args.setting.now.s c.args.n c.args.setting.now.ready c.requires c.node-node.ensures c.layout-digits.ensures c.slot_size-in_a.ensures c.slot_size-in_b.ensures c.slot_size-in_c.ensures no_choice)
 
 pub overflow_add-result-2 : goal.overflow_add-result-2
 overflow_add-result-2 c =
     let no_choice = sym c.is_choice.ensures ∙ c.if-is_choice.false in
-    omega (arith, total_small c.args.image.now c.args.s c.args.n c.requires c.node_at-node.ensures c.layout-digits.ensures c.slot_size-in_a.ensures c.slot_size-in_b.ensures c.slot_size-in_c.ensures no_choice)
+    omega (arith, total_small c.args.setting.now.routine.image.now c.args.setting.now.s c.args.n c.args.setting.now.ready c.requires c.node-node.ensures c.layout-digits.ensures c.slot_size-in_a.ensures c.slot_size-in_b.ensures c.slot_size-in_c.ensures no_choice)
 
 pub overflow_add-result-3 : goal.overflow_add-result-3
 overflow_add-result-3 c =
     let no_choice = sym c.is_choice.ensures ∙ c.if-is_choice.false in
-    omega (arith, total_small c.args.image.now c.args.s c.args.n c.requires c.node_at-node.ensures c.layout-digits.ensures c.slot_size-in_a.ensures c.slot_size-in_b.ensures c.slot_size-in_c.ensures no_choice)
+    omega (arith, total_small c.args.setting.now.routine.image.now c.args.setting.now.s c.args.n c.args.setting.now.ready c.requires c.node-node.ensures c.layout-digits.ensures c.slot_size-in_a.ensures c.slot_size-in_b.ensures c.slot_size-in_c.ensures no_choice)
 
 pub returns : goal.returns
 returns c =
     let no_choice = sym c.is_choice.ensures ∙ c.if-is_choice.false in
-    whole c.args.image.now c.args.s c.args.n c.requires c.node_at-node.ensures c.layout-digits.ensures c.slot_size-in_a.ensures c.slot_size-in_b.ensures c.slot_size-in_c.ensures no_choice
+    whole c.args.setting.now.routine.image.now c.args.setting.now.s c.args.n c.args.setting.now.ready c.requires c.node-node.ensures c.layout-digits.ensures c.slot_size-in_a.ensures c.slot_size-in_b.ensures c.slot_size-in_c.ensures no_choice

@@ -15,15 +15,6 @@ named_small slot next r h e = go (names_node slot) e
     go true e = omega arith
     go false e = omega arith
 
-pub name-a-requires : goal.name-a-requires
-name-a-requires c = rw c.layout-digits.ensures c.requires.a_written
-
-pub name-b-requires : goal.name-b-requires
-name-b-requires c = rw c.layout-digits.ensures c.requires.b_written
-
-pub name-c-requires : goal.name-c-requires
-name-c-requires c = rw c.layout-digits.ensures c.requires.c_written
-
 pub node_word-requires : goal.node_word-requires
 node_word-requires c =
     let ended = c.requires in

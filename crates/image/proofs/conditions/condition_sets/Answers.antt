@@ -93,8 +93,3 @@ loop-k-preserved c =
       omega arith,
       more _ loop.sets loop.k c.set_of.result.bits (below-256 c.before) loop.invariant.1 c.set_of.ensures,
     )
-
-pub returns : goal.returns
-returns c =
-    let e : c.loop-k.k ≡ c.args.shape.conditions = omega arith in
-    rw e at c.loop-k.invariant.1

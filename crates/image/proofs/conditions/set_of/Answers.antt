@@ -1,102 +1,86 @@
 -- `set_of` meets its contract: each arm is the equation of membership of its kind, and what it looks up is lower, so it is known.
-use mathlib.Core.Path.{◌≡◌, refl, sym, ◌∙◌, ap, ap₂}
-use mathlib.Core.Bool.{not, ◌&&◌, ◌||◌}
-use Prim.Native.Nat.{ℕ, ◌/◌, ◌%◌, ◌<◌}
-use mathlib.Core.List.{List}
-use native.Mathlib.Omega.{arith}
-use lib.ListN.{get_or}
+use Rattle.std.proofs.Common.{◌≡◌, ℕ, not, ◌&&◌, ◌||◌, ◌/◌, ◌%◌, ◌<◌, List, get_or, sym, refl, ap, ◌∙◌}
+use mathlib.Core.Path.{ap₂}
 use Rattle.sets.specs.Member.{bit}
 use Rattle.sets.proofs.Laws.{bit_none}
+use Rattle.image.specs.declared.records.ConditionRecord.{ConditionRecord}
 use Rattle.image.specs.Records.{header, condition_record}
 use Rattle.image.specs.Layout.{condition_kinds, condition_layout}
 use Rattle.image.specs.Sets.{in_condition}
-use Rattle.image.proofs.Theorem.ConditionHeld.{kind_below, left_below, right_below}
+use Rattle.image.specs.Inner.SetsOf.{Turn}
+use Rattle.image.proofs.Theorem.ConditionHeld.{known, left_below, right_below}
 use Rattle.image.proofs.Theorem.ConditionSets.{false_set, true_set, option_set, not_set, and_set, or_set}
-use Rattle.image.proofs.conditions.set_of.Lts as lts
-use Rattle.image.proofs.conditions.set_of.Reads as reads
-use Rattle.image.proofs.conditions.set_of.Tie as tie
 use Rattle.image.proofs.conditions.set_of.Goals as goal
 
-abbrev After-condition_at-r : Type 0
-After-condition_at-r = lts.After-condition_at tie.the-claims reads.Pre reads.Post
+-- the record that was read, r, is that of condition k
+module _ (l sets : List ℕ) (k full : ℕ) (turn : Turn l k full sets) (r : ConditionRecord) (r_is : r ≡ condition_record l k) where
+  is_kind : {κ : ℕ} → κ ≡ r.kind → (condition_record l k).kind ≡ κ
+  is_kind e = sym (e ∙ ap (λ x. x.kind) r_is)
 
-abbrev Start : Type 0
-Start = lts.Start tie.the-claims reads.Pre reads.Post
+  -- the set that is looked up, x, is that of a name of the record, which is below k
+  left_set : (κ : ℕ) → κ ≡ r.kind → condition_layout κ / 8 % 8 ≡ 1 → (x s : ℕ) → x ≡ get_or sets r.left 0
+      → ((condition_record l k).left < k) × (bit x s ≡ in_condition l (condition_record l k).left s)
+  left_set κ e d x s x_is =
+      let lower = left_below (header l).options k (condition_record l k) turn.fits κ (is_kind e) d in
+      (lower, ap (λ y. bit y s) (x_is ∙ ap (λ x. get_or sets x.left 0) r_is) ∙ turn.before.right _ lower s)
 
--- what is known once the record is read
-module _ (c : After-condition_at-r) where
-  abbrev start : Start
-  start = c.before.before.before
+  right_set : (κ : ℕ) → κ ≡ r.kind → condition_layout κ % 8 ≡ 1 → (x s : ℕ) → x ≡ get_or sets r.right 0
+      → ((condition_record l k).right < k) × (bit x s ≡ in_condition l (condition_record l k).right s)
+  right_set κ e d x s x_is =
+      let lower = right_below (header l).options k (condition_record l k) turn.fits κ (is_kind e) d in
+      (lower, ap (λ y. bit y s) (x_is ∙ ap (λ x. get_or sets x.right 0) r_is) ∙ turn.before.right _ lower s)
 
-  abbrev l : List ℕ
-  l = start.args.image.now
+pub kind-requires : goal.kind-requires
+kind-requires c none =
+    known (header c.args.image.now).options c.args.k (condition_record c.args.image.now c.args.k) c.requires.fits (ap (λ r. condition_layout r.kind) (sym c.condition_at-r.ensures) ∙ none)
 
-  abbrev k : ℕ
-  k = start.args.k
+pub returns-in-False : goal.returns-in-False
+returns-in-False c s =
+    let a = c.args in
+    let kind = is_kind a.image.now a.sets.now a.k _ c.requires _ c.condition_at-r.ensures c.in-False.ensures in
+    ap (λ x. bit x s) c.empty.ensures ∙ bit_none s ∙ sym (false_set a.image.now a.k s kind)
 
-  abbrev sets : List ℕ
-  sets = start.args.sets.now
+pub returns-in-True : goal.returns-in-True
+returns-in-True c s =
+    let a = c.args in
+    let kind = is_kind a.image.now a.sets.now a.k _ c.requires _ c.condition_at-r.ensures c.in-True.ensures in
+    c.requires.full_is s ∙ sym (true_set a.image.now a.k s kind)
 
-  is_record : (κ : ℕ) → c.condition_at-r.result.kind ≡ κ → (condition_record l k).kind ≡ κ
-  is_record κ e = sym (ap (λ r. r.kind) c.condition_at-r.ensures) ∙ e
-
-  -- a name of the record is below k
-  left_lower : (κ : ℕ) → c.condition_at-r.result.kind ≡ κ → condition_layout κ / 8 % 8 ≡ 1 → (condition_record l k).left < k
-  left_lower κ e d = left_below (header l).options k (condition_record l k) start.requires.fits κ (is_record κ e) d
-
-  right_lower : (κ : ℕ) → c.condition_at-r.result.kind ≡ κ → condition_layout κ % 8 ≡ 1 → (condition_record l k).right < k
-  right_lower κ e d = right_below (header l).options k (condition_record l k) start.requires.fits κ (is_record κ e) d
-
-  is_left : c.condition_at-r.result.left ≡ (condition_record l k).left
-  is_left = ap (λ r. r.left) c.condition_at-r.ensures
-
-  is_right : c.condition_at-r.result.right ≡ (condition_record l k).right
-  is_right = ap (λ r. r.right) c.condition_at-r.ensures
-
-  -- the set that is looked up, x
-  left_set : (s x : ℕ) → x ≡ get_or sets c.condition_at-r.result.left 0 → (condition_record l k).left < k → bit x s ≡ in_condition l (condition_record l k).left s
-  left_set s x e h = ap (λ y. bit y s) (e ∙ ap (λ i. get_or sets i 0) is_left) ∙ start.requires.before.right (condition_record l k).left h s
-
-  right_set : (s x : ℕ) → x ≡ get_or sets c.condition_at-r.result.right 0 → (condition_record l k).right < k → bit x s ≡ in_condition l (condition_record l k).right s
-  right_set s x e h = ap (λ y. bit y s) (e ∙ ap (λ i. get_or sets i 0) is_right) ∙ start.requires.before.right (condition_record l k).right h s
-
-pub returns-in-0 : goal.returns-in-0
-returns-in-0 c s =
-    ap (λ x. bit x s) c.empty.ensures ∙ bit_none s ∙ sym (false_set (l c.before.before.before) (k c.before.before.before) s (is_record c.before.before.before 0 c.in-0.is))
-
-pub returns-in-1 : goal.returns-in-1
-returns-in-1 c s = (start c.before.before).requires.full_is s ∙ sym (true_set (l c.before.before) (k c.before.before) s (is_record c.before.before 1 c.in-1.is))
-
-pub returns-in-2 : goal.returns-in-2
-returns-in-2 c s =
+pub returns-in-Option : goal.returns-in-Option
+returns-in-Option c s =
+    let a = c.args in
+    let kind = is_kind a.image.now a.sets.now a.k _ c.requires _ c.condition_at-r.ensures c.in-Option.ensures in
     c.option.ensures s
-    ∙ ap₂ (λ a o. a && bit s o) ((start c.before.before.before).requires.full_is s) (ap (λ r. r.option) c.condition_at-r.ensures)
-    ∙ sym (option_set (l c.before.before.before) (k c.before.before.before) s (is_record c.before.before.before 2 c.in-2.is))
+    ∙ ap₂ (λ a o. a && bit s o) (c.requires.full_is s) (ap (λ r. r.option) c.condition_at-r.ensures)
+    ∙ sym (option_set a.image.now a.k s kind)
 
-pub returns-in-3 : goal.returns-in-3
+pub returns-in-Not : goal.returns-in-Not
 unfolding condition_layout condition_kinds
-returns-in-3 c s =
-    let h = left_lower c.before.before.before.before 3 c.in-3.is refl in
+returns-in-Not c s =
+    let a = c.args in
+    let e = c.in-Not.ensures in
+    let kind = is_kind a.image.now a.sets.now a.k _ c.requires _ c.condition_at-r.ensures e in
+    let x = left_set a.image.now a.sets.now a.k _ c.requires _ c.condition_at-r.ensures 3 e refl _ s c.at-left.ensures in
     c.take_away.ensures s
-    ∙ ap₂ (λ a x. a && not x) ((start c.before.before.before.before).requires.full_is s) (left_set c.before.before.before.before s _ c.at.ensures h)
-    ∙ sym (not_set (l c.before.before.before.before) (k c.before.before.before.before) s (is_record c.before.before.before.before 3 c.in-3.is) h)
+    ∙ ap₂ (λ a x. a && not x) (c.requires.full_is s) x.1
+    ∙ sym (not_set a.image.now a.k s kind x.0)
 
-pub returns-in-4 : goal.returns-in-4
+pub returns-in-And : goal.returns-in-And
 unfolding condition_layout condition_kinds
-returns-in-4 c s =
-    let h = left_lower c.before.before.before.before.before 4 c.in-4.is refl in
-    let i = right_lower c.before.before.before.before.before 4 c.in-4.is refl in
-    c.meet.ensures s
-    ∙ ap₂ ◌&&◌ (left_set c.before.before.before.before.before s _ c.at-in-4.ensures h) (right_set c.before.before.before.before.before s _ c.at-in-4-2.ensures i)
-    ∙ sym (and_set (l c.before.before.before.before.before) (k c.before.before.before.before.before) s (is_record c.before.before.before.before.before 4 c.in-4.is) h i)
+returns-in-And c s =
+    let a = c.args in
+    let e = c.in-And.ensures in
+    let kind = is_kind a.image.now a.sets.now a.k _ c.requires _ c.condition_at-r.ensures e in
+    let x = left_set a.image.now a.sets.now a.k _ c.requires _ c.condition_at-r.ensures 4 e refl _ s c.at-left.ensures in
+    let y = right_set a.image.now a.sets.now a.k _ c.requires _ c.condition_at-r.ensures 4 e refl _ s c.at-right.ensures in
+    c.meet.ensures s ∙ ap₂ ◌&&◌ x.1 y.1 ∙ sym (and_set a.image.now a.k s kind x.0 y.0)
 
-pub returns-in_default : goal.returns-in_default
+pub returns-in-Or : goal.returns-in-Or
 unfolding condition_layout condition_kinds
-returns-in_default c s =
-    let below : (condition_record c.args.image.now c.args.k).kind < 6 = kind_below _ _ _ c.requires.fits in
-    let e : c.condition_at-r.result.kind ≡ 5 = omega (arith, below, ap (λ r. r.kind) c.condition_at-r.ensures) in
-    let h = left_lower c.before.before.before.before.before 5 e refl in
-    let i = right_lower c.before.before.before.before.before 5 e refl in
-    c.join.ensures s
-    ∙ ap₂ ◌||◌ (left_set c.before.before.before.before.before s _ c.at-in_default.ensures h) (right_set c.before.before.before.before.before s _ c.at-in_default-2.ensures i)
-    ∙ sym (or_set (l c.before.before.before.before.before) (k c.before.before.before.before.before) s (is_record c.before.before.before.before.before 5 e) h i)
+returns-in-Or c s =
+    let a = c.args in
+    let e = c.in-Or.ensures in
+    let kind = is_kind a.image.now a.sets.now a.k _ c.requires _ c.condition_at-r.ensures e in
+    let x = left_set a.image.now a.sets.now a.k _ c.requires _ c.condition_at-r.ensures 5 e refl _ s c.at-left.ensures in
+    let y = right_set a.image.now a.sets.now a.k _ c.requires _ c.condition_at-r.ensures 5 e refl _ s c.at-right.ensures in
+    c.join.ensures s ∙ ap₂ ◌||◌ x.1 y.1 ∙ sym (or_set a.image.now a.k s kind x.0 y.0)

@@ -3,10 +3,10 @@ use borrow.Author.Tests.{eq-eqb, ne_eqb}
 use Rattle.image.specs.Rows.{node_fits}
 use Rattle.image.proofs.fits.node_fits.Goals as goal
 
-pub returns-then-node-eq-NUMBER : goal.returns-then-node-eq-NUMBER
+pub returns-then-node : goal.returns-then-node
 unfolding node_fits
-returns-then-node-eq-NUMBER c = rw (eq-eqb _ _ c.if-node-eq-NUMBER.true)
+returns-then-node c = rw (eq-eqb _ _ c.if-node.true)
 
 pub returns : goal.returns
 unfolding node_fits
-returns c = rw (ne_eqb _ _ c.if-node-eq-NUMBER.false) (cc)
+returns c = rw (ne_eqb _ _ c.if-node.false) (cc)

@@ -1,10 +1,6 @@
 -- `slot_classed` meets its contract, by its test of the field.
-use mathlib.Core.Path.{sym, ◌∙◌}
 use Rattle.image.specs.Rows.{slot_classed}
 use Rattle.image.proofs.fits.slot_classed.Goals as goal
-
-pub class-requires : goal.class-requires
-class-requires c = (c.requires.0, c.requires.1 (sym c.names_node.ensures ∙ c.if-names_node.true))
 
 pub returns-then-names_node : goal.returns-then-names_node
 unfolding slot_classed

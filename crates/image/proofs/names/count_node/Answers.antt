@@ -5,10 +5,6 @@ use Rattle.image.specs.Rows.{node_names}
 use Rattle.image.proofs.Counting.{slot_names_le}
 use Rattle.image.proofs.names.count_node.Goals as goal
 
-pub count_slot-requires : goal.count_slot-requires
-count_slot-requires c names =
-    (c.requires.0.a_lower (rw c.layout-digits.ensures at names), omega (arith, c.requires.1 c.args.node.a))
-
 pub count_slot-requires-2 : goal.count_slot-requires-2
 count_slot-requires-2 c names =
     let digits = c.layout-digits in

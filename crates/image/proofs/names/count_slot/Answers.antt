@@ -28,18 +28,6 @@ room : (c : Then-names_node)
     → (let a = (start c).args in (a.value < length a.counts.now) × (get_or a.counts.now a.value 0 ≤ 4096))
 room c = (start c).requires (named c)
 
-pub offset_bounds-counts-value : goal.offset_bounds-counts-value
-offset_bounds-counts-value c = omega (arith, (room c.before).0)
-
-pub bounds-counts-value : goal.bounds-counts-value
-bounds-counts-value c = (room c.before.before).0
-
-pub overflow_add-counts : goal.overflow_add-counts
-overflow_add-counts c = omega (arith, (room c.before).1)
-
-pub bounds-counts-value-then-names_node : goal.bounds-counts-value-then-names_node
-bounds-counts-value-then-names_node c = (room c.before).0
-
 pub returns-then-names_node : goal.returns-then-names_node
 returns-then-names_node c k =
     let args = (start c.before).args in

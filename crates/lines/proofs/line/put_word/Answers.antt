@@ -7,22 +7,6 @@ use Rattle.lines.specs.Words.{space, outcome_words, word}
 use Rattle.text.proofs.Putting.{same}
 use Rattle.lines.proofs.line.put_word.Goals as goal
 
-pub returns-in-0 : goal.returns-in-0
-unfolding word outcome_words
-returns-in-0 c = same (ap (λ n. space ++ (word n ++ space)) (sym c.in-0.is)) c.put.ensures
-
-pub returns-in-1 : goal.returns-in-1
-unfolding word outcome_words
-returns-in-1 c = same (ap (λ n. space ++ (word n ++ space)) (sym c.in-1.is)) c.put-in-1.ensures
-
-pub returns-in-2 : goal.returns-in-2
-unfolding word outcome_words
-returns-in-2 c = same (ap (λ n. space ++ (word n ++ space)) (sym c.in-2.is)) c.put-in-2.ensures
-
-pub returns-in-3 : goal.returns-in-3
-unfolding word outcome_words
-returns-in-3 c = same (ap (λ n. space ++ (word n ++ space)) (sym c.in-3.is)) c.put-in-3.ensures
-
 -- no other number has a word
 wordless : (n : ℕ) → (n ≡ 0 → ⊥) → (n ≡ 1 → ⊥) → (n ≡ 2 → ⊥) → (n ≡ 3 → ⊥) → word n ≡ []
 unfolding word outcome_words

@@ -1,58 +1,50 @@
 -- `is_short` meets its contract: by the kind of the statement, and of what it holds.
-use mathlib.Core.Path.{◌≡◌, sym, ap, ◌∙◌}
-use mathlib.Core.List.{List}
-use Prim.Native.Nat.{ℕ}
-use native.Mathlib.Omega.{arith}
+use Rattle.std.proofs.Common.{◌≡◌, ◌∙◌, sym, ap, ℕ, List, false, ◌⊎◌, arith}
+use Rattle.image.specs.declared.kinds.Kind.{Kind}
+use Rattle.image.specs.declared.kinds.Kind.TheVariants.{Skip, Assign, Throw}
 use Rattle.image.specs.declared.records.Node.{Node}
+use Rattle.image.specs.Kinds.{kind_number}
 use Rattle.image.specs.Records.{node}
 use Rattle.image.specs.Tree.{read}
-use Rattle.image.proofs.Theorem.Held.{Child}
-use Rattle.written.specs.Lister.{shortᵃ}
+use Rattle.written.specs.Lister.{shortᵃ, short}
 use Rattle.listing.specs.Inner.Listing.{Asking}
-use Rattle.listing.proofs.Theorem.Short.{long, skip_short, assign_child, throw_child, assign_short, throw_short}
+use Rattle.listing.proofs.Theorem.Short.{long, skip_short, held, held_short}
+use Rattle.listing.proofs.Theorem.Image.{kind_known}
 use Rattle.listing.proofs.short.is_short.Goals as goal
 
--- what it holds, of a node as it was read
-leaf : {l : List ℕ} {conditions n : ℕ} {ν : Node} → ν ≡ node l n → Asking l conditions n 3 → Child l n 1 (node l n).a → Asking l conditions ν.a 1
-leaf e pre child =
-    rw e (record { good = pre.good; node_below = omega (arith, child.is_lower, pre.node_below); is_class = child.is_class })
+-- of a node as it was read, and its kind
+module _ {l : List ℕ} {n : ℕ} (pre : Asking l n 3) {ν : Node} (is : ν ≡ node l n) (k : Kind) (kind : kind_number k ≡ ν.kind) where
+  kind_is : kind_number k ≡ (node l n).kind
+  kind_is = kind ∙ ap (λ ν. ν.kind) is
 
-module _ {l : List ℕ} {conditions n : ℕ} (pre : Asking l conditions n 3) {ν : Node} (is : ν ≡ node l n) where
-  kind_is : ν.kind ≡ (node l n).kind
-  kind_is = ap (λ ν. ν.kind) is
+  holds : (k ≡ Assign) ⊎ (k ≡ Throw) → ((node l n).kind ≡ 17) ⊎ ((node l n).kind ≡ 21)
+  holds = let e = kind_is in λ is. grind arith
 
-  assigns : ν.kind ≡ 17 → Child l n 1 (node l n).a
-  assigns e = assign_child l pre.good.accepted n pre.node_below (sym kind_is ∙ e)
+  asking : (k ≡ Assign) ⊎ (k ≡ Throw) → Asking l ν.a 1
+  asking e =
+      let child = held l pre.accepted n pre.node_below (holds e) in
+      rw is (record { accepted = pre.accepted; node_below = omega (arith, child.is_lower, pre.node_below); is_class = child.is_class })
 
-  throws : ν.kind ≡ 21 → Child l n 1 (node l n).a
-  throws e = throw_child l pre.good.accepted n pre.node_below (sym kind_is ∙ e)
+  as_held : (k ≡ Assign) ⊎ (k ≡ Throw) → shortᵃ (read l ν.a).arithmetic ≡ short (read l n).statement
+  as_held e = rw is (sym (held_short l pre.accepted n pre.node_below (holds e)))
 
-  held : shortᵃ (read l ν.a).arithmetic ≡ shortᵃ (read l (node l n).a).arithmetic
-  held = ap (λ (ν : Node). shortᵃ (read l ν.a).arithmetic) is
+  no_other : (k ≡ Skip → ⊥) → (k ≡ Assign → ⊥) → (k ≡ Throw → ⊥) → short (read l n).statement ≡ false
+  no_other skip assign throw =
+      let e = kind_is in
+      long l n pre.is_class (λ s. grind arith) (λ a. grind arith) (λ t. grind arith)
+
+pub kind-requires : goal.kind-requires
+kind-requires c = kind_known c.requires.accepted c.requires.node_below c.node-node.ensures
 
 pub is_leaf-requires : goal.is_leaf-requires
-is_leaf-requires c = leaf c.node_at-node.ensures c.requires (assigns c.requires c.node_at-node.ensures c.in-17.is)
+is_leaf-requires c = asking c.requires c.node-node.ensures _ c.kind.ensures c.in-Assign.is
 
-pub is_leaf-requires-in-21 : goal.is_leaf-requires-in-21
-is_leaf-requires-in-21 c = leaf c.node_at-node.ensures c.requires (throws c.requires c.node_at-node.ensures c.in-21.is)
+pub returns-in-Skip : goal.returns-in-Skip
+returns-in-Skip c = sym (skip_short c.args.routine.image.now c.args.n (sym (c.in-Skip.ensures ∙ ap (λ (ν : Node). ν.kind) c.node-node.ensures)))
 
-pub returns-in-16 : goal.returns-in-16
-returns-in-16 c =
-    sym (skip_short c.args.image.now c.args.n (sym (kind_is c.requires c.node_at-node.ensures) ∙ c.in-16.is))
-
-pub returns-in-17 : goal.returns-in-17
-returns-in-17 c =
-    let pre = c.requires in
-    let is = c.node_at-node.ensures in
-    c.is_leaf.ensures ∙ held pre is ∙ sym (assign_short _ pre.good.accepted c.args.n pre.node_below (sym (kind_is pre is) ∙ c.in-17.is))
-
-pub returns-in-21 : goal.returns-in-21
-returns-in-21 c =
-    let pre = c.requires in
-    let is = c.node_at-node.ensures in
-    c.is_leaf-in-21.ensures ∙ held pre is ∙ sym (throw_short _ pre.good.accepted c.args.n pre.node_below (sym (kind_is pre is) ∙ c.in-21.is))
+pub returns-in-Assign : goal.returns-in-Assign
+returns-in-Assign c = c.is_leaf.ensures ∙ as_held c.requires c.node-node.ensures _ c.kind.ensures c.in-Assign.is
 
 pub returns-in_default : goal.returns-in_default
 returns-in_default c =
-    let kind = kind_is c.requires c.node_at-node.ensures in
-    sym (long c.args.image.now c.args.n c.requires.is_class (λ e. omega (arith, kind)) (λ e. omega (arith, kind)) (λ e. omega (arith, kind)))
+    sym (no_other c.requires c.node-node.ensures _ c.kind.ensures c.in_default.not-Skip c.in_default.not-Assign c.in_default.not-Throw)

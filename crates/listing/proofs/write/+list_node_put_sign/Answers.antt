@@ -1,70 +1,42 @@
 -- `list_node` and `put_sign` meet their contracts together. The measure of node n is 2n + 2, and that of a sign which stands for node x is 2x + 3: a node's
 -- fields name lower nodes, so each call's is less.
-use mathlib.Core.Path.{refl, sym, ap}
-use Prim.Native.Nat.{◌+◌, ◌≤◌}
+use mathlib.Core.Path.{sym, ap, ◌∙◌}
 use lib.ListN.{length}
-use Rattle.listing.specs.Inner.Spelling.{spelling, spell, stands}
-use Rattle.listing.specs.Inner.Texts.{parts_at}
+use Rattle.listing.specs.Inner.Spelling.{spelling}
 use native.Mathlib.Omega.{arith}
 use Rattle.text.proofs.Putting.{same}
-use Rattle.listing.proofs.Theorem.Signs.{whole}
-use Rattle.listing.proofs.Signs.{begun, goes_on, ends, room}
+use Rattle.listing.proofs.Signs.{begun, goes_on, ends}
+use Rattle.listing.proofs.Theorem.Image.{kind_known}
 use Rattle.listing.proofs.Nodes as Nodes
 use Rattle.listing.proofs.write.+list_node_put_sign.Goals as goal
 
 -- `list_node` meets its contract: before each turn the signs below i are put.
 
-pub list_node-node_at-node-requires : goal.list_node-node_at-node-requires
-list_node-node_at-node-requires t c =
-    let pre = c.requires in
-    (pre.good.conditions_are, omega (arith, pre.good.conditions_are, pre.good.accepted.length_is, pre.node_below))
-
-pub list_node-all_short-flat-requires : goal.list_node-all_short-flat-requires
-list_node-all_short-flat-requires t c =
-    record { good = c.requires.good; n = c.args.n; is_node = c.node_at-node.ensures; node_below = c.requires.node_below }
-
-pub list_node-loop-i-init : goal.list_node-loop-i-init
-list_node-loop-i-init t c =
-    let ν = c.node_at-node.result in
-    (omega arith, refl, begun (parts_at c.args.image.now c.args.level ν) (spelling ν.kind) (omega (arith, c.requires.fits)))
-
-pub list_node-sign-s-requires : goal.list_node-sign-s-requires
-list_node-sign-s-requires t c = c.loop-i-test.true
+pub list_node-kind-requires : goal.list_node-kind-requires
+list_node-kind-requires t c = kind_known c.requires.accepted c.requires.node_below c.node-node.ensures
 
 pub list_node-put_sign-end-requires : goal.list_node-put_sign-end-requires
 list_node-put_sign-end-requires t c =
-    let pre = c.requires in
-    let ν = c.node_at-node.result in
-    let is = c.node_at-node.ensures in
-    let parts = parts_at c.args.image.now c.args.level ν in
-    let loop = c.loop-i in
-    let enough : c.args.at + length (spell parts (spelling ν.kind)) ≤ length c.args.out.now = omega (arith, pre.fits, ap length (Nodes.spelled pre is)) in
-    let fits = room parts (spelling ν.kind) loop.i loop.invariant.2 enough in (
-      omega (arith, Nodes.falls pre is loop.i c.sign-s.ensures),
-      Nodes.signing pre is loop.i c.all_short-flat.ensures c.sign-s.ensures (omega (arith, fits, loop.invariant.1)),
+    let loop = c.loop-sign in
+    let is = c.node-node.ensures in
+    let are = (c.spelling-sign-items.ensures ∙ ap spelling c.kind.ensures) in (
+      omega (arith, Nodes.falls c.requires is are loop.sign-index c.loop-sign-test.true),
+      Nodes.signing c.requires is are loop.sign-index c.loop-sign-test.true c.all_short-flat.ensures loop.auto.out loop.invariant,
     )
 
-pub list_node-loop-i-preserved : goal.list_node-loop-i-preserved
-list_node-loop-i-preserved t c =
-    let ν = c.node_at-node.result in
-    let parts = parts_at c.args.image.now c.args.level ν in
-    let loop = c.loop-i in
-    let put = c.put_sign-end in (
-      omega (arith, c.loop-i-test.true),
-      omega arith,
-      goes_on parts (spelling ν.kind) loop.i loop.invariant.2 (same (ap (stands parts) c.sign-s.ensures) put.ensures),
-    )
+pub list_node-loop-sign-init : goal.list_node-loop-sign-init
+list_node-loop-sign-init t c = begun _ (omega (arith, c.requires.fits))
+
+pub list_node-loop-sign-preserved : goal.list_node-loop-sign-preserved
+list_node-loop-sign-preserved t c =
+    goes_on _ _ _ c.loop-sign-test.true c.loop-sign.invariant c.put_sign-end.ensures
 
 pub list_node-returns : goal.list_node-returns
 list_node-returns t c =
-    let loop = c.loop-i in
-    same (sym (Nodes.spelled c.requires c.node_at-node.ensures))
-    (ends _ (spelling c.node_at-node.result.kind) loop.i 21 (omega (arith, loop.invariant.0, c.loop-i-test.false)) (whole c.node_at-node.result.kind) loop.invariant.2)
+    let loop = c.loop-sign in
+    same (Nodes.spelled c.requires c.node-node.ensures (c.spelling-sign-items.ensures ∙ ap spelling c.kind.ensures)) (ends _ _ loop.sign-index c.loop-sign-test.false loop.invariant)
 
 -- `put_sign` meets its contract: for each sign what stands for it.
-
-pub put_sign-overflow_add-level : goal.put_sign-overflow_add-level
-put_sign-overflow_add-level t c = omega (arith, c.requires.level_few)
 
 pub put_sign-list_node-requires : goal.put_sign-list_node-requires
 put_sign-list_node-requires t c =
@@ -72,17 +44,11 @@ put_sign-list_node-requires t c =
     let part = Nodes.a_stands pre c.in-65.is in
     (omega (arith, part.reach_is), Nodes.listing pre (omega arith) part)
 
-pub put_sign-overflow_add-level-in-66 : goal.put_sign-overflow_add-level-in-66
-put_sign-overflow_add-level-in-66 t c = omega (arith, c.requires.level_few)
-
 pub put_sign-list_node-requires-in-66 : goal.put_sign-list_node-requires-in-66
 put_sign-list_node-requires-in-66 t c =
     let pre = c.requires in
     let part = Nodes.b_stands pre c.in-66.is in
     (omega (arith, part.reach_is), Nodes.listing pre (omega arith) part)
-
-pub put_sign-overflow_add-level-in-67 : goal.put_sign-overflow_add-level-in-67
-put_sign-overflow_add-level-in-67 t c = omega (arith, c.requires.level_few)
 
 pub put_sign-list_node-requires-in-67 : goal.put_sign-list_node-requires-in-67
 put_sign-list_node-requires-in-67 t c =

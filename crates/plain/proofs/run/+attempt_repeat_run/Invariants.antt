@@ -14,7 +14,7 @@ decreases-run l = 2 * l.n
 
 abbrev pub invariant-repeat-loop-going : goal.invariant-repeat-loop-going
 invariant-repeat-loop-going l =
-    Turning l.budget l.s l.image l.node.a l.node.b l.initial.numbers l.initial.q l.initial.going l.numbers l.q l.going
+    Turning l.budget l.setting.s l.setting.routine.image.now l.node.a l.node.b l.initial.numbers l.initial.q l.initial.going l.numbers l.q l.going
 
 abbrev pub decreases-repeat-loop-going : goal.decreases-repeat-loop-going
 decreases-repeat-loop-going l = turns_left l.budget l.going l.q

@@ -8,7 +8,7 @@ pub returns : goal.returns
 returns c =
     let a = c.args in
     record {
-      reaches = stores a.node.variable a.p a.numbers.now (through c.arithmetic-x.type_inv c.arithmetic-x.ensures);
+      reaches = stores a.node.variable a.p a.numbers.now (through c.arithmetic.type_inv c.arithmetic.ensures);
       proper = c.requires.variable_bound.1;
       sixteen = simp length-set c.requires.evaluating.sixteen;
     }

@@ -1,61 +1,71 @@
 -- A condition's operands are read behind its first token, so that fewer bytes are left for each; what is written follows from the laws of ConditionParts and ConditionPairs.
-use mathlib.Core.Path.{◌∙◌}
-use native.Mathlib.Omega.{arith}
+use Rattle.reading.proofs.Ways.{refused_is}
+use Rattle.std.proofs.Common.{ap, arith}
+use Rattle.image.specs.Kinds.{condition_kind_number}
+use Rattle.reading.proofs.Naming.{no_operand}
 use Rattle.reading.proofs.ConditionLeads.{any}
-use Rattle.reading.proofs.ConditionParts.{refused_first, first_ready, first_less, leaf_storable, leaf_reads, not_storable, not_reads}
-use Rattle.reading.proofs.ConditionPairs.{second_ready, second_less, two_storable, two_reads}
+use Rattle.reading.proofs.ConditionParts.{first_ready, first_less, leaf_storable, leaf_reads, not_refused, not_storable, not_reads}
+use Rattle.reading.proofs.ConditionPairs.{first_refused, join_refused, second_ready, second_less, second_refused, close_refused, two_storable, two_reads}
 use Rattle.reading.proofs.condition.+condition.Goals as goal
 
-pub condition_lead-lead-requires : goal.condition_lead-lead-requires
-condition_lead-lead-requires t c =
-    (c.requires.good, c.requires.options_few)
+-- ---- an operand
 
-pub returns-then-o-ne0 : goal.returns-then-o-ne0
-returns-then-o-ne0 t c =
-    refused_first _ _ _ _ _ c.requires c.condition_lead-lead.ensures c.if-o-ne0.true
+pub condition-requires : goal.condition-requires
+condition-requires t c =
+    let less = first_less _ _ _ _ _ c.requires c.in_ok-lead.ensures in
+    (omega (arith, less), first_ready _ _ _ _ _ c.requires c.in_ok-lead.ensures)
 
-pub condition-a-requires : goal.condition-a-requires
-condition-a-requires t c =
-    let less = first_less _ _ _ _ _ c.requires c.condition_lead-lead.ensures c.if-o-ne0.false in (omega (arith, less), first_ready _ _ _ _ _ c.requires c.condition_lead-lead.ensures c.if-o-ne0.false)
+pub returns-in_err-a-in-Not : goal.returns-in_err-a-in-Not
+returns-in_err-a-in-Not t c = rw (refused_is c.from_residual-in_err-a-in-Not.result c.from_residual-in_err-a-in-Not.ensures.1) (not_refused _ _ _ _ _ c.requires c.in_ok-lead.ensures _ (ap condition_kind_number c.in-Not.is) c.in_err-a-in-Not.ensures)
 
 pub store-requires : goal.store-requires
-store-requires t c =
-    not_storable _ _ _ _ _ c.requires c.condition_lead-lead.ensures c.if-o-ne0.false c.condition-a.ensures c.before-then-kind-eq-NOT_CONDITION.ensures
+store-requires t c = not_storable _ _ _ _ _ c.requires c.in_ok-lead.ensures c.in_ok-a-in-Not.ensures c.before-left.ensures
 
-pub returns-then-kind-eq-NOT_CONDITION : goal.returns-then-kind-eq-NOT_CONDITION
-returns-then-kind-eq-NOT_CONDITION t c =
-    not_reads _ _ _ _ _ c.requires c.condition_lead-lead.ensures c.if-o-ne0.false c.condition-a.ensures c.before-then-kind-eq-NOT_CONDITION.ensures c.if-kind-eq-NOT_CONDITION.true c.store.ensures
+pub returns-in_ok-a-in-Not : goal.returns-in_ok-a-in-Not
+returns-in_ok-a-in-Not t c = not_reads _ _ _ _ _ c.requires c.in_ok-lead.ensures c.in_ok-a-in-Not.ensures c.before-left.ensures (ap condition_kind_number c.in-Not.is) c.store.ensures
 
-pub condition-a-requires-then-kind-eq-AND_CONDITION : goal.condition-a-requires-then-kind-eq-AND_CONDITION
-condition-a-requires-then-kind-eq-AND_CONDITION t c =
-    let less = first_less _ _ _ _ _ c.requires c.condition_lead-lead.ensures c.if-o-ne0.false in (omega (arith, less), first_ready _ _ _ _ _ c.requires c.condition_lead-lead.ensures c.if-o-ne0.false)
+-- ---- two operands
 
-pub join-j-requires : goal.join-j-requires
-join-j-requires t c = (c.condition-a-then-kind-eq-AND_CONDITION.ensures.way any).good
+pub condition-requires-in-And : goal.condition-requires-in-And
+condition-requires-in-And t c =
+    let less = first_less _ _ _ _ _ c.requires c.in_ok-lead.ensures in
+    (omega (arith, less), first_ready _ _ _ _ _ c.requires c.in_ok-lead.ensures)
 
-pub condition-b-requires : goal.condition-b-requires
-condition-b-requires t c =
-    let less = second_less _ _ _ _ _ c.requires c.condition_lead-lead.ensures c.if-o-ne0.false c.condition-a-then-kind-eq-AND_CONDITION.ensures c.join-j.ensures in (omega (arith, less), second_ready _ _ _ _ _ c.requires c.condition_lead-lead.ensures c.if-o-ne0.false c.condition-a-then-kind-eq-AND_CONDITION.ensures c.join-j.ensures)
+pub returns-in_err-a-in-And : goal.returns-in_err-a-in-And
+returns-in_err-a-in-And t c = rw (refused_is c.from_residual-in_err-a-in-And.result c.from_residual-in_err-a-in-And.ensures.1) (first_refused _ _ _ _ _ c.requires c.in_ok-lead.ensures (ap condition_kind_number c.in-And.is) _ c.in_err-a-in-And.ensures)
 
-pub fixed-d-requires : goal.fixed-d-requires
-fixed-d-requires t c =
-    (c.condition-b.ensures.way any).good
+pub join-requires : goal.join-requires
+join-requires t c = (c.in_ok-a-in-And.ensures.read.way any).good
 
-pub store-requires-then-kind-eq-AND_CONDITION : goal.store-requires-then-kind-eq-AND_CONDITION
-store-requires-then-kind-eq-AND_CONDITION t c =
-    two_storable _ _ _ _ _ c.requires c.condition_lead-lead.ensures c.if-o-ne0.false c.condition-a-then-kind-eq-AND_CONDITION.ensures c.join-j.ensures c.condition-b.ensures c.fixed-d.ensures c.before-then-kind-eq-AND_CONDITION.ensures c.before-then-kind-eq-AND_CONDITION-2.ensures
+pub returns-in_err-j-in-And : goal.returns-in_err-j-in-And
+returns-in_err-j-in-And t c = rw (refused_is c.from_residual-in_err-j-in-And.result c.from_residual-in_err-j-in-And.ensures.1) (join_refused _ _ _ _ _ c.requires c.in_ok-lead.ensures (ap condition_kind_number c.in-And.is) c.in_ok-a-in-And.ensures _ c.in_err-j-in-And.ensures)
 
-pub shape_of-records-then-kind-eq-AND_CONDITION : goal.shape_of-records-then-kind-eq-AND_CONDITION
-shape_of-records-then-kind-eq-AND_CONDITION t c = c.store-then-kind-eq-AND_CONDITION.ensures.same_space ∙ c.condition-b.ensures.same_space ∙ c.condition-a-then-kind-eq-AND_CONDITION.ensures.same_space
+pub condition-requires-in-And-2 : goal.condition-requires-in-And-2
+condition-requires-in-And-2 t c =
+    let less = second_less _ _ _ _ _ c.requires c.in_ok-lead.ensures (ap condition_kind_number c.in-And.is) c.in_ok-a-in-And.ensures c.in_ok-j-in-And.ensures in
+    (omega (arith, less), second_ready _ _ _ _ _ c.requires c.in_ok-lead.ensures (ap condition_kind_number c.in-And.is) c.in_ok-a-in-And.ensures c.in_ok-j-in-And.ensures)
 
-pub returns-then-kind-eq-AND_CONDITION : goal.returns-then-kind-eq-AND_CONDITION
-returns-then-kind-eq-AND_CONDITION t c =
-    two_reads _ _ _ _ _ c.requires c.condition_lead-lead.ensures c.if-o-ne0.false c.condition-a-then-kind-eq-AND_CONDITION.ensures c.join-j.ensures c.condition-b.ensures c.fixed-d.ensures c.before-then-kind-eq-AND_CONDITION.ensures c.before-then-kind-eq-AND_CONDITION-2.ensures c.if-kind-eq-AND_CONDITION.true c.store-then-kind-eq-AND_CONDITION.ensures
+pub returns-in_err-b-in-And : goal.returns-in_err-b-in-And
+returns-in_err-b-in-And t c = rw (refused_is c.from_residual-in_err-b-in-And.result c.from_residual-in_err-b-in-And.ensures.1) (second_refused _ _ _ _ _ c.requires c.in_ok-lead.ensures (ap condition_kind_number c.in-And.is) c.in_ok-a-in-And.ensures c.in_ok-j-in-And.ensures _ c.in_err-b-in-And.ensures)
 
-pub store-requires-2 : goal.store-requires-2
-store-requires-2 t c =
-    leaf_storable _ _ _ _ _ c.requires c.condition_lead-lead.ensures c.if-o-ne0.false
+pub fixed-requires : goal.fixed-requires
+fixed-requires t c = (c.in_ok-b-in-And.ensures.read.way any).good
 
-pub returns : goal.returns
-returns t c =
-    leaf_reads _ _ _ _ _ c.requires c.condition_lead-lead.ensures c.if-o-ne0.false c.if-kind-eq-NOT_CONDITION.false c.if-kind-eq-AND_CONDITION.false c.store-2.ensures
+pub returns-in_err-d-in-And : goal.returns-in_err-d-in-And
+returns-in_err-d-in-And t c = rw (refused_is c.from_residual-in_err-d-in-And.result c.from_residual-in_err-d-in-And.ensures.1) (close_refused _ _ _ _ _ c.requires c.in_ok-lead.ensures (ap condition_kind_number c.in-And.is) c.in_ok-a-in-And.ensures c.in_ok-j-in-And.ensures c.in_ok-b-in-And.ensures _ c.in_err-d-in-And.ensures)
+
+pub store-requires-in-And : goal.store-requires-in-And
+store-requires-in-And t c = two_storable _ _ _ _ _ c.requires c.in_ok-lead.ensures (ap condition_kind_number c.in-And.is) c.in_ok-a-in-And.ensures c.in_ok-j-in-And.ensures c.in_ok-b-in-And.ensures c.in_ok-d-in-And.ensures c.before-left-in-And.ensures c.before-right.ensures
+
+pub returns-in_ok-d-in-And : goal.returns-in_ok-d-in-And
+returns-in_ok-d-in-And t c = two_reads _ _ _ _ _ c.requires c.in_ok-lead.ensures (ap condition_kind_number c.in-And.is) c.in_ok-a-in-And.ensures c.in_ok-j-in-And.ensures c.in_ok-b-in-And.ensures c.in_ok-d-in-And.ensures c.before-left-in-And.ensures c.before-right.ensures c.store-in-And.ensures
+
+-- ---- none
+
+pub store-requires-in_default : goal.store-requires-in_default
+store-requires-in_default t c = leaf_storable _ _ _ _ _ c.requires c.in_ok-lead.ensures
+
+pub returns-in_default : goal.returns-in_default
+returns-in_default t c =
+    let k = no_operand _ c.in_default.not-Not c.in_default.not-And in
+    leaf_reads _ _ _ _ _ c.requires c.in_ok-lead.ensures k.0 k.1 c.store-in_default.ensures

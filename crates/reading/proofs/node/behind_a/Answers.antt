@@ -1,19 +1,29 @@
 -- A mark, or for a try the three tokens between its parts, one way behind the other.
-use Rattle.written.specs.Word.{CATCH}
-use Rattle.written.specs.Machine.{done}
-use Rattle.reading.proofs.Tokens.{nothing_read}
-use Rattle.reading.proofs.Marking.{fixed_way}
-use Rattle.reading.proofs.Between.{behind_mark, behind_catch}
+use Rattle.reading.proofs.Ways.{refused_is}
+use Rattle.std.proofs.Common.{ap}
+use Rattle.std.proofs.Math.Option.{none}
+use Rattle.image.specs.Kinds.{kind_number}
+use Rattle.reading.proofs.Naming.{no_try}
+use Rattle.reading.proofs.Between.{behind_mark, no_catch, catch_good, no_caught, caught_good, no_with, behind_catch}
 use Rattle.reading.proofs.node.behind_a.Goals as goal
 
-pub returns-then-kind-ne-TRY : goal.returns-then-kind-ne-TRY
-returns-then-kind-ne-TRY c = behind_mark _ _ c.requires _ _ _ _ c.if-kind-ne-TRY.true c.mark.ensures
+pub returns-in_ok-mark-in_default : goal.returns-in_ok-mark-in_default
+returns-in_ok-mark-in_default c = λ o e. behind_mark _ _ c.requires _ _ o _ (no_try _ c.in_default.not-Try) (c.in_ok-mark-in_default.ensures o e)
 
-pub variable-v-requires : goal.variable-v-requires
-variable-v-requires c = ((fixed_way _ _ c.requires CATCH _ c.fixed-d.ensures).way (done nothing_read)).good
+pub returns-in_err-d-in-Try : goal.returns-in_err-d-in-Try
+returns-in_err-d-in-Try c = rw (refused_is c.from_residual.result c.from_residual.ensures.1) (λ o e. no_catch _ _ c.requires _ c.args.value o (ap kind_number c.in-Try.is) _ c.in_err-d-in-Try.ensures)
 
-pub fixed-requires : goal.fixed-requires
-fixed-requires c = (c.variable-v.ensures.way 0 (λ i. done nothing_read)).good
+pub variable-requires : goal.variable-requires
+variable-requires c = catch_good _ _ c.requires _ c.args.value none (ap kind_number c.in-Try.is) _ c.in_ok-d-in-Try.ensures
 
-pub returns : goal.returns
-returns c = behind_catch _ _ c.requires _ _ _ _ _ _ c.if-kind-ne-TRY.false c.fixed-d.ensures c.variable-v.ensures c.fixed.ensures
+pub returns-in_err-v-in-Try : goal.returns-in_err-v-in-Try
+returns-in_err-v-in-Try c = rw (refused_is c.from_residual-in_err-v-in-Try.result c.from_residual-in_err-v-in-Try.ensures.1) (λ o e. no_caught _ _ c.requires _ c.args.value o (ap kind_number c.in-Try.is) _ c.in_ok-d-in-Try.ensures _ c.in_err-v-in-Try.ensures)
+
+pub fixed-requires-in-Try : goal.fixed-requires-in-Try
+fixed-requires-in-Try c = caught_good _ _ c.requires _ c.args.value none (ap kind_number c.in-Try.is) _ c.in_ok-d-in-Try.ensures _ c.in_ok-v-in-Try.ensures
+
+pub returns-in_err-fixed-in-Try : goal.returns-in_err-fixed-in-Try
+returns-in_err-fixed-in-Try c = rw (refused_is c.from_residual-in_err-fixed-in-Try.result c.from_residual-in_err-fixed-in-Try.ensures.1) (λ o e. no_with _ _ c.requires _ c.args.value o (ap kind_number c.in-Try.is) _ c.in_ok-d-in-Try.ensures _ c.in_ok-v-in-Try.ensures _ c.in_err-fixed-in-Try.ensures)
+
+pub returns-in_ok-fixed-in-Try : goal.returns-in_ok-fixed-in-Try
+returns-in_ok-fixed-in-Try c = λ o e. behind_catch _ _ c.requires _ c.args.value o (ap kind_number c.in-Try.is) _ c.in_ok-d-in-Try.ensures _ c.in_ok-v-in-Try.ensures _ c.in_ok-fixed-in-Try.ensures

@@ -1,105 +1,76 @@
 -- A part is read in the order in which it is written; bytes left fall with each part that begins, for its first token has been read.
-use native.Mathlib.Omega.{arith}
+use Rattle.reading.proofs.Ways.{refused_is}
+use Rattle.std.proofs.Common.{ap, ◌∙◌, arith}
+use Rattle.image.specs.Layout.{layout}
 use Rattle.written.specs.Machine.{done}
 use Rattle.reading.proofs.Tokens.{nothing_read}
-use Rattle.reading.proofs.Fielding.{behind_mark, behind_first, behind_part, no_field, condition_ready, condition_field, of_slot, condition_slot, no_slot, class_small}
-use Rattle.reading.proofs.Filled.{finishing_so, filled_so}
-use Rattle.reading.proofs.Beginning.{part_refused, fields_ready, part_filled}
+use Rattle.reading.proofs.Fielding.{no_field, condition_field, of_slot, condition_slot, no_slot, class_small}
+use Rattle.reading.proofs.Filled.{wrong₁, next₁, wrong₂, next₂, wrong₃, next₃, wrong₄, next₄, wrong₅, next₅, wrong₆, next₆, wrong₇, finishing, filled}
+use Rattle.reading.proofs.Beginning.{fields_ready, part_filled}
 use Rattle.reading.proofs.part.+field_fields_part.Goals as goal
-
-pub field-condition-requires : goal.field-condition-requires
-field-condition-requires t c = condition_ready _ _ _ _ _ c.requires
 
 pub field-returns-then-slot-eq-CONDITION : goal.field-returns-then-slot-eq-CONDITION
 field-returns-then-slot-eq-CONDITION t c =
-    of_slot _ _ _ _ _ _ _ _ _ _ (condition_slot _ c.if-slot-eq-CONDITION.true) (condition_field _ _ _ _ _ _ _ c.requires c.condition.ensures)
+    of_slot _ _ _ _ _ _ _ _ _ _ (condition_slot _ c.if-slot-eq-CONDITION.true) (condition_field _ _ _ _ _ _ _ c.condition.ensures)
 
 pub field-part-requires : goal.field-part-requires
 field-part-requires t c =
     let k = class_small _ _ c.names_node.ensures c.if-names_node.true in
     (omega arith, (c.requires, k.0, k.1))
 
-pub field-returns-then-names_node : goal.field-returns-then-names_node
-field-returns-then-names_node t c = c.part.ensures
-
 pub field-returns : goal.field-returns
 field-returns t c =
     of_slot _ _ _ _ _ _ _ _ _ _ (no_slot _ _ c.names_node.ensures c.if-names_node.false c.if-slot-eq-CONDITION.false) (no_field _ _ _ _ _ c.requires)
 
-pub fields-mark-before_a-requires : goal.fields-mark-before_a-requires
-fields-mark-before_a-requires t c = c.requires.ready.good
+pub fields-returns-in_err-before_a : goal.fields-returns-in_err-before_a
+fields-returns-in_err-before_a t c = rw (refused_is c.from_residual.result c.from_residual.ensures.1) (wrong₁ c.requires (c.layout-digits.ensures ∙ ap layout c.from.ensures) (c.in_err-before_a.ensures _ c.marks-m.ensures.0))
 
-pub fields-field-a-requires : goal.fields-field-a-requires
-fields-field-a-requires t c =
-    let n₁ = behind_mark _ _ _ _ _ _ _ c.requires.ready c.mark-before_a.ensures in
-    (omega (arith, n₁.forth), n₁.ready)
+pub fields-returns-in_err-a : goal.fields-returns-in_err-a
+fields-returns-in_err-a t c = rw (refused_is c.from_residual-in_err-a.result c.from_residual-in_err-a.ensures.1) (wrong₂ c.requires (c.layout-digits.ensures ∙ ap layout c.from.ensures) (c.in_ok-before_a.ensures _ c.marks-m.ensures.0) c.in_err-a.ensures)
 
-pub fields-behind_a-v-requires : goal.fields-behind_a-v-requires
-fields-behind_a-v-requires t c =
-    let n₁ = behind_mark _ _ _ _ _ _ _ c.requires.ready c.mark-before_a.ensures in
-    let n₂ = behind_part _ _ _ _ _ _ _ _ _ n₁.ready c.field-a.ensures in
-    n₂.ready.good
+pub fields-returns-in_err-v : goal.fields-returns-in_err-v
+fields-returns-in_err-v t c = rw (refused_is c.from_residual-in_err-v.result c.from_residual-in_err-v.ensures.1) (wrong₃ c.requires (c.layout-digits.ensures ∙ ap layout c.from.ensures) (c.in_ok-before_a.ensures _ c.marks-m.ensures.0) c.in_ok-a.ensures (c.in_err-v.ensures _ c.marks-m.ensures.1))
 
-pub fields-field-b-requires : goal.fields-field-b-requires
-fields-field-b-requires t c =
-    let n₁ = behind_mark _ _ _ _ _ _ _ c.requires.ready c.mark-before_a.ensures in
-    let n₂ = behind_part _ _ _ _ _ _ _ _ _ n₁.ready c.field-a.ensures in
-    let n₃ = behind_first _ _ _ _ _ _ _ _ _ n₂.ready c.behind_a-v.ensures in
-    (omega (arith, n₁.forth, n₂.forth, n₃.forth), n₃.ready)
+pub fields-returns-in_err-b : goal.fields-returns-in_err-b
+fields-returns-in_err-b t c = rw (refused_is c.from_residual-in_err-b.result c.from_residual-in_err-b.ensures.1) (wrong₄ c.requires (c.layout-digits.ensures ∙ ap layout c.from.ensures) (c.in_ok-before_a.ensures _ c.marks-m.ensures.0) c.in_ok-a.ensures (c.in_ok-v.ensures _ c.marks-m.ensures.1) c.in_err-b.ensures)
 
-pub fields-mark-before_c-requires : goal.fields-mark-before_c-requires
-fields-mark-before_c-requires t c =
-    let n₁ = behind_mark _ _ _ _ _ _ _ c.requires.ready c.mark-before_a.ensures in
-    let n₂ = behind_part _ _ _ _ _ _ _ _ _ n₁.ready c.field-a.ensures in
-    let n₃ = behind_first _ _ _ _ _ _ _ _ _ n₂.ready c.behind_a-v.ensures in
-    let n₄ = behind_part _ _ _ _ _ _ _ _ _ n₃.ready c.field-b.ensures in
-    n₄.ready.good
+pub fields-returns-in_err-before_c : goal.fields-returns-in_err-before_c
+fields-returns-in_err-before_c t c = rw (refused_is c.from_residual-in_err-before_c.result c.from_residual-in_err-before_c.ensures.1) (wrong₅ c.requires (c.layout-digits.ensures ∙ ap layout c.from.ensures) (c.in_ok-before_a.ensures _ c.marks-m.ensures.0) c.in_ok-a.ensures (c.in_ok-v.ensures _ c.marks-m.ensures.1) c.in_ok-b.ensures (c.in_err-before_c.ensures _ c.marks-m.ensures.2))
 
-pub fields-field-d-requires : goal.fields-field-d-requires
-fields-field-d-requires t c =
-    let n₁ = behind_mark _ _ _ _ _ _ _ c.requires.ready c.mark-before_a.ensures in
-    let n₂ = behind_part _ _ _ _ _ _ _ _ _ n₁.ready c.field-a.ensures in
-    let n₃ = behind_first _ _ _ _ _ _ _ _ _ n₂.ready c.behind_a-v.ensures in
-    let n₄ = behind_part _ _ _ _ _ _ _ _ _ n₃.ready c.field-b.ensures in
-    let n₅ = behind_mark _ _ _ _ _ _ _ n₄.ready c.mark-before_c.ensures in
-    (omega (arith, n₁.forth, n₂.forth, n₃.forth, n₄.forth, n₅.forth), n₅.ready)
+pub fields-returns-in_err-d : goal.fields-returns-in_err-d
+fields-returns-in_err-d t c = rw (refused_is c.from_residual-in_err-d.result c.from_residual-in_err-d.ensures.1) (wrong₆ c.requires (c.layout-digits.ensures ∙ ap layout c.from.ensures) (c.in_ok-before_a.ensures _ c.marks-m.ensures.0) c.in_ok-a.ensures (c.in_ok-v.ensures _ c.marks-m.ensures.1) c.in_ok-b.ensures (c.in_ok-before_c.ensures _ c.marks-m.ensures.2) c.in_err-d.ensures)
 
-pub fields-mark-end-requires : goal.fields-mark-end-requires
-fields-mark-end-requires t c =
-    let n₁ = behind_mark _ _ _ _ _ _ _ c.requires.ready c.mark-before_a.ensures in
-    let n₂ = behind_part _ _ _ _ _ _ _ _ _ n₁.ready c.field-a.ensures in
-    let n₃ = behind_first _ _ _ _ _ _ _ _ _ n₂.ready c.behind_a-v.ensures in
-    let n₄ = behind_part _ _ _ _ _ _ _ _ _ n₃.ready c.field-b.ensures in
-    let n₅ = behind_mark _ _ _ _ _ _ _ n₄.ready c.mark-before_c.ensures in
-    let n₆ = behind_part _ _ _ _ _ _ _ _ _ n₅.ready c.field-d.ensures in
-    n₆.ready.good
+pub fields-returns-in_err-end : goal.fields-returns-in_err-end
+fields-returns-in_err-end t c = rw (refused_is c.from_residual-in_err-end.result c.from_residual-in_err-end.ensures.1) (wrong₇ c.requires (c.layout-digits.ensures ∙ ap layout c.from.ensures) (c.in_ok-before_a.ensures _ c.marks-m.ensures.0) c.in_ok-a.ensures (c.in_ok-v.ensures _ c.marks-m.ensures.1) c.in_ok-b.ensures (c.in_ok-before_c.ensures _ c.marks-m.ensures.2) c.in_ok-d.ensures (c.in_err-end.ensures _ c.marks-m.ensures.3))
+
+pub fields-field-requires : goal.fields-field-requires
+fields-field-requires t c = (omega (arith, (next₁ c.requires (c.layout-digits.ensures ∙ ap layout c.from.ensures) (c.in_ok-before_a.ensures _ c.marks-m.ensures.0)).forth), (next₁ c.requires (c.layout-digits.ensures ∙ ap layout c.from.ensures) (c.in_ok-before_a.ensures _ c.marks-m.ensures.0)).ready)
+
+pub fields-behind_a-requires : goal.fields-behind_a-requires
+fields-behind_a-requires t c = (next₂ c.requires (c.layout-digits.ensures ∙ ap layout c.from.ensures) (c.in_ok-before_a.ensures _ c.marks-m.ensures.0) c.in_ok-a.ensures).ready.good
+
+pub fields-field-requires-2 : goal.fields-field-requires-2
+fields-field-requires-2 t c = (omega (arith, (next₁ c.requires (c.layout-digits.ensures ∙ ap layout c.from.ensures) (c.in_ok-before_a.ensures _ c.marks-m.ensures.0)).forth, (next₂ c.requires (c.layout-digits.ensures ∙ ap layout c.from.ensures) (c.in_ok-before_a.ensures _ c.marks-m.ensures.0) c.in_ok-a.ensures).forth, (next₃ c.requires (c.layout-digits.ensures ∙ ap layout c.from.ensures) (c.in_ok-before_a.ensures _ c.marks-m.ensures.0) c.in_ok-a.ensures (c.in_ok-v.ensures _ c.marks-m.ensures.1)).forth), (next₃ c.requires (c.layout-digits.ensures ∙ ap layout c.from.ensures) (c.in_ok-before_a.ensures _ c.marks-m.ensures.0) c.in_ok-a.ensures (c.in_ok-v.ensures _ c.marks-m.ensures.1)).ready)
+
+pub fields-mark-requires-2 : goal.fields-mark-requires-2
+fields-mark-requires-2 t c = (next₄ c.requires (c.layout-digits.ensures ∙ ap layout c.from.ensures) (c.in_ok-before_a.ensures _ c.marks-m.ensures.0) c.in_ok-a.ensures (c.in_ok-v.ensures _ c.marks-m.ensures.1) c.in_ok-b.ensures).ready.good
+
+pub fields-field-requires-3 : goal.fields-field-requires-3
+fields-field-requires-3 t c = (omega (arith, (next₁ c.requires (c.layout-digits.ensures ∙ ap layout c.from.ensures) (c.in_ok-before_a.ensures _ c.marks-m.ensures.0)).forth, (next₂ c.requires (c.layout-digits.ensures ∙ ap layout c.from.ensures) (c.in_ok-before_a.ensures _ c.marks-m.ensures.0) c.in_ok-a.ensures).forth, (next₃ c.requires (c.layout-digits.ensures ∙ ap layout c.from.ensures) (c.in_ok-before_a.ensures _ c.marks-m.ensures.0) c.in_ok-a.ensures (c.in_ok-v.ensures _ c.marks-m.ensures.1)).forth, (next₄ c.requires (c.layout-digits.ensures ∙ ap layout c.from.ensures) (c.in_ok-before_a.ensures _ c.marks-m.ensures.0) c.in_ok-a.ensures (c.in_ok-v.ensures _ c.marks-m.ensures.1) c.in_ok-b.ensures).forth, (next₅ c.requires (c.layout-digits.ensures ∙ ap layout c.from.ensures) (c.in_ok-before_a.ensures _ c.marks-m.ensures.0) c.in_ok-a.ensures (c.in_ok-v.ensures _ c.marks-m.ensures.1) c.in_ok-b.ensures (c.in_ok-before_c.ensures _ c.marks-m.ensures.2)).forth), (next₅ c.requires (c.layout-digits.ensures ∙ ap layout c.from.ensures) (c.in_ok-before_a.ensures _ c.marks-m.ensures.0) c.in_ok-a.ensures (c.in_ok-v.ensures _ c.marks-m.ensures.1) c.in_ok-b.ensures (c.in_ok-before_c.ensures _ c.marks-m.ensures.2)).ready)
+
+pub fields-mark-requires-3 : goal.fields-mark-requires-3
+fields-mark-requires-3 t c = (next₆ c.requires (c.layout-digits.ensures ∙ ap layout c.from.ensures) (c.in_ok-before_a.ensures _ c.marks-m.ensures.0) c.in_ok-a.ensures (c.in_ok-v.ensures _ c.marks-m.ensures.1) c.in_ok-b.ensures (c.in_ok-before_c.ensures _ c.marks-m.ensures.2) c.in_ok-d.ensures).ready.good
 
 pub fields-finish-requires : goal.fields-finish-requires
-fields-finish-requires t c =
-    finishing_so c.requires c.layout-digits.ensures c.marks-m.ensures c.mark-before_a.ensures c.field-a.ensures c.behind_a-v.ensures c.field-b.ensures c.mark-before_c.ensures c.field-d.ensures c.mark-end.ensures
-
-pub fields-shape_of-nodes : goal.fields-shape_of-nodes
-fields-shape_of-nodes t c = (filled_so c.requires c.layout-digits.ensures c.marks-m.ensures c.mark-before_a.ensures c.field-a.ensures c.behind_a-v.ensures c.field-b.ensures c.mark-before_c.ensures c.field-d.ensures c.mark-end.ensures c.finish.ensures).same_nodes
-
-pub fields-shape_of-records : goal.fields-shape_of-records
-fields-shape_of-records t c = (filled_so c.requires c.layout-digits.ensures c.marks-m.ensures c.mark-before_a.ensures c.field-a.ensures c.behind_a-v.ensures c.field-b.ensures c.mark-before_c.ensures c.field-d.ensures c.mark-end.ensures c.finish.ensures).same_records
+fields-finish-requires t c = finishing c.requires (c.layout-digits.ensures ∙ ap layout c.from.ensures) (c.in_ok-before_a.ensures _ c.marks-m.ensures.0) c.in_ok-a.ensures (c.in_ok-v.ensures _ c.marks-m.ensures.1) c.in_ok-b.ensures (c.in_ok-before_c.ensures _ c.marks-m.ensures.2) c.in_ok-d.ensures (c.in_ok-end.ensures _ c.marks-m.ensures.3)
 
 pub fields-returns : goal.fields-returns
-fields-returns t c =
-    filled_so c.requires c.layout-digits.ensures c.marks-m.ensures c.mark-before_a.ensures c.field-a.ensures c.behind_a-v.ensures c.field-b.ensures c.mark-before_c.ensures c.field-d.ensures c.mark-end.ensures c.finish.ensures
-
-pub part-lead-l-requires : goal.part-lead-l-requires
-part-lead-l-requires t c = (c.requires.0.good, c.requires.1, c.requires.2)
-
-pub part-returns-then-d-ne0 : goal.part-returns-then-d-ne0
-part-returns-then-d-ne0 t c = part_refused _ _ _ _ _ _ c.requires.0 _ c.lead-l.ensures c.if-d-ne0.true
+fields-returns t c = filled c.requires (c.layout-digits.ensures ∙ ap layout c.from.ensures) (c.in_ok-before_a.ensures _ c.marks-m.ensures.0) c.in_ok-a.ensures (c.in_ok-v.ensures _ c.marks-m.ensures.1) c.in_ok-b.ensures (c.in_ok-before_c.ensures _ c.marks-m.ensures.2) c.in_ok-d.ensures (c.in_ok-end.ensures _ c.marks-m.ensures.3) c.finish.ensures
 
 pub part-fields-requires : goal.part-fields-requires
 part-fields-requires t c =
-    let h = c.lead-l.ensures in
-    let l = c.if-d-ne0.false in
-    (omega (arith, h.further l, (h.way 0 (λ i. done nothing_read)).good.inside), fields_ready _ _ _ _ _ _ c.requires.0 _ h l c.requires.1)
+    let h = c.in_ok-l.ensures in
+    (omega (arith, h.further, (h.way 0 (λ i. done nothing_read)).good.inside), fields_ready _ _ _ _ _ _ c.requires.0 _ h c.requires.1)
 
 pub part-returns : goal.part-returns
-part-returns t c =
-    part_filled _ _ _ _ _ _ c.requires.0 _ c.lead-l.ensures c.if-d-ne0.false _ _ _ c.fields.ensures
+part-returns t c = part_filled _ _ _ _ _ _ c.requires.0 _ c.in_ok-l.ensures _ _ _ c.fields.ensures

@@ -1,10 +1,11 @@
--- A refused cursor stays; any other goes behind the spaces.
-use borrow.Author.Rules.{rules}
-use Rattle.reading.proofs.Returns.{pass_refused, pass_live}
+-- As many bytes are passed as are spaces.
+use Rattle.std.proofs.Common.{arith, rules}
+use Rattle.reading.proofs.Returns.{pass}
+use Rattle.reading.proofs.Passing.{spaces_inside}
 use Rattle.reading.proofs.spaces.pass_spaces.Goals as goal
 
-pub returns-then-c-ne0 : goal.returns-then-c-ne0
-returns-then-c-ne0 c = search (pass_refused, rules)
+pub overflow_add-at : goal.overflow_add-at
+overflow_add-at c = omega (arith, spaces_inside c.args.text.now c.args.c.at c.spaces.result c.requires.inside c.spaces.ensures)
 
 pub returns : goal.returns
-returns c = search (pass_live, rules)
+returns c = search (pass, rules)

@@ -1,5 +1,5 @@
 -- `Set::option` meets its contract: by the rule of the single options below 6, and there is no option from 6 on.
-use mathlib.Core.Path.{◌≡◌, sym, ◌∙◌}
+use mathlib.Core.Path.{◌≡◌, sym, ap, ◌∙◌}
 use mathlib.Core.Bool.{◌&&◌, not}
 use Prim.Native.Nat.{ℕ, ◌+◌, ◌*◌, ◌/◌, ◌-◌, ◌%◌, ◌^◌, ◌≤◌, ◌<◌}
 use native.Mathlib.Omega.{arith}
@@ -29,7 +29,7 @@ left : (full k away s : ℕ) → full < 2 ^ 64 → k < 6 → away ≡ off 6 k �
 left full k away s hf hk e = rw e (option_left 6 full k s hf hk)
 
 pub returns-then-k-ge6 : goal.returns-then-k-ge6
-returns-then-k-ge6 c s = bit_none s ∙ sym (option_none 6 _ _ s (omega arith) c.if-k-ge6.true)
+returns-then-k-ge6 c s = ap (λ (n : ℕ). bit n s) c.empty.ensures ∙ bit_none s ∙ sym (option_none 6 _ _ s (omega arith) c.if-k-ge6.true)
 
 pub returns : goal.returns
 returns c s =

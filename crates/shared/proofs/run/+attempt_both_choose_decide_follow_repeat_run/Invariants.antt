@@ -1,6 +1,6 @@
 -- The measures of `run` and its kinds: what remains of the budget and the node's number fall together; and what each turn of a while leaves the same.
 use Prim.Native.Nat.{◌+◌, ◌*◌, max}
-use Rattle.shared.specs.Lent.{tally}
+use Rattle.shared.specs.Inner.Handed.{Same}
 use Rattle.shared.proofs.Loops.{Turning, turns_left}
 use Rattle.shared.proofs.run.+attempt_both_choose_decide_follow_repeat_run.Given as goal
 
@@ -25,10 +25,10 @@ decreases-repeat l = 3 * (l.turn.rem + l.node.b) + 1
 abbrev pub decreases-run : goal.decreases-run
 decreases-run l = 3 * (l.turn.rem + l.n)
 
-abbrev pub invariant-repeat-loop-plan : goal.invariant-repeat-loop-plan
-invariant-repeat-loop-plan l =
-    Turning l.image l.plan l.sets l.node l.initial.store (tally l.initial.outcomes l.initial.codes l.initial.steps) l.initial.now
-    l.store (tally l.outcomes l.codes l.steps) l.now
+abbrev pub invariant-repeat-loop-node : goal.invariant-repeat-loop-node
+invariant-repeat-loop-node l =
+    Same l.initial.lent l.lent
+    × Turning l.plan l.node l.initial.lent l.initial.now l.lent l.now
 
-abbrev pub decreases-repeat-loop-plan : goal.decreases-repeat-loop-plan
-decreases-repeat-loop-plan l = turns_left l.now
+abbrev pub decreases-repeat-loop-node : goal.decreases-repeat-loop-node
+decreases-repeat-loop-node l = turns_left l.now

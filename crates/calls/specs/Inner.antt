@@ -1,0 +1,2 @@
+-- What inner functions ask of each other; no promise rests on reading it.
+pub mod Asked

@@ -1,6 +1,0 @@
--- `node_fields` meets its contract: a shift is a division, and the lowest fields are not divided at all.
-use native.Mathlib.Nat.{div-one}
-use Rattle.image.proofs.records.node_fields.Goals as goal
-
-pub returns : goal.returns
-returns c = simp div-one
