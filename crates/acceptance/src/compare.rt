@@ -33,6 +33,7 @@ fn settings(image: &[u8]) -> usize
 }
 
 // Setting s inside the set is as its plain run and outside untouched, and "visits are at least the largest step count".
+// One by one: each of its parameters is another's answer.
 #[tactic(auto, unfolding(crate::specs::Inner::Comparing::setting_holds))]
 fn setting_holds(
     image: &[u8],
@@ -55,7 +56,7 @@ fn setting_holds(
     untouched(s, p, left)
 }
 
-// Every setting holds, and the visits are "at most their sum".
+// Every setting holds, and the visits are "at most their sum". The slices one by one, as `shared_run` takes them.
 fn all_hold(
     image: &[u8],
     set: Set,
@@ -85,7 +86,7 @@ fn all_hold(
     good & (u64::from(visits) <= sum)
 }
 
-// The runs, on slices of the right lengths.
+// The runs, on slices of the right lengths, one by one as `shared_run` takes them.
 fn compare_lent(
     image: &[u8],
     set: Set,

@@ -39,6 +39,7 @@ fn main(rt: HostRuntime) {
     let mut space = [0u8; 16384];
     let n = read_input(&mut rt.stdin(), &mut space).unwrap_or_else(|Failed(n)| n);
     let mut rest: &[u8] = &space[..n];
+    // Counted by hand: how long a routine is stands in its record, so there is nothing to enumerate before it is read.
     let mut k: u64 = 0;
     while !rest.is_empty() {
         rest = routine(&rt, rest, k);

@@ -13,13 +13,19 @@ impl fmt::Display for Compared {
     }
 }
 
+fn tell_number<R: Print>(rt: &R, k: u64) {
+    let _ = print!(rt; "routine {k}: ");
+}
+
 pub fn tell<R: Print>(rt: &R, k: u64, compared: Option<Compared>) {
+    tell_number(rt, k);
     let _ = match compared {
-        Some(c) => println!(rt; "routine {k}: {c}"),
-        None => println!(rt; "routine {k}: refused"),
+        Some(c) => println!(rt; "{c}"),
+        None => println!(rt; "refused"),
     };
 }
 
 pub fn tell_cut_short<R: Print>(rt: &R, k: u64) {
-    let _ = println!(rt; "routine {k}: cut short");
+    tell_number(rt, k);
+    let _ = println!(rt; "cut short");
 }

@@ -39,7 +39,7 @@ pub fn configured_size(setting: &Setting<'_>) -> usize
 {
     let nodes = setting.routine.nodes;
     let mut sizes = [0usize; 1024];
-    // An index, since each size is made of those that the array already holds.
+    // An index, since each size is made of those that the array already holds; the lister's `fill` is of no crate below this one.
     for n in 0..nodes {
         sizes[n] = size_of(setting, n, &sizes);
     }

@@ -8,7 +8,7 @@ use image::kinds::{Kind, OF_A, OF_B, is_choice, layout, names_node};
 use image::setting::Setting;
 use image::words::{node_word, put};
 
-// A child was just written, so its name is the number before the next; a field that names no node is zero.
+// A child was just written, so its name is the number before the next; a field that names no node is zero. Reading goes by a cursor for it.
 fn name(slot: u32, next: usize) -> usize
     requires { names_node slot ≡ true → 0 < next }
     ensures { result ≡ named slot next }

@@ -17,7 +17,7 @@ const MOST: usize = 9237;
 // A space that every text fits.
 const ENOUGH: usize = 288;
 
-// Writes nothing but the text of what was read; false if it cannot be written.
+// Writes nothing but the text of what was read; false if it cannot be written. The report program has its own: each names its own text.
 fn write<W: Write>(out: &mut W, input: &[u8], n: usize, text: &[u8]) -> bool
     requires { Tells input.now n text.now }
 {

@@ -47,6 +47,7 @@ pub fn condition_sets(image: &[u8], shape: Shape) -> [u64; 256]
     let full = all_settings(shape.options);
     let conditions = shape.conditions;
     let mut sets = [0u64; 256];
+    // By the index: a table that is made from itself.
     for k in 0..conditions {
         sets[k] = set_of(image, k, full, &sets).bits;
     }

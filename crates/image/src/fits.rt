@@ -49,7 +49,7 @@ pub fn condition_fits(options: u32, k: usize, r: ConditionRecord) -> bool
 pub fn node_fits(conditions: usize, n: usize, node: Node) -> bool
     ensures { result ≡ node_fits conditions n node }
 {
-    if node.kind == Kind::Number as u32 {
+    if node.kind == u32::from(Kind::Number) {
         return node.high == 0;
     }
     let digits = layout(node.kind);

@@ -70,7 +70,7 @@ impl From<Kind> for u32 {
     }
 }
 
-// The kinds of conditions, each with its number.
+// The kinds of conditions, each with its number; an enum of its own, and so a match of its own.
 #[derive(Clone, Copy, PartialEq, Eq)]
 pub enum ConditionKind {
     False = 0,
@@ -116,7 +116,7 @@ pub const OF_A: u32 = 0o100;
 
 pub const OF_B: u32 = 0o10;
 
-// What a digit says: the class of a node, or what a field holds.
+// What a digit says: the class of a node, or what a field holds. Numbers, here and where a slot is asked for: specs/Layout has document 01's tables so.
 pub const BOOLEAN: u32 = 2;
 
 pub const STATEMENT: u32 = 3;
@@ -151,7 +151,7 @@ pub const OF_OPTION: u32 = 0o100;
 
 pub const OF_LEFT: u32 = 0o10;
 
-// Likewise for conditions: whether the kind is known, option, left, right.
+// Likewise for conditions, in a table of its own, since a row has other digits: whether the kind is known, option, left, right.
 const CONDITION_KINDS: [u32; 6] = [
     0o1000, // 0 false
     0o1000, // 1 true

@@ -13,5 +13,5 @@ pub mod search; // search.rt: the lowest number that is bad
 pub mod setting; // setting.rt: a setting of a routine
 pub mod words; // words.rt: an image's words, and their bytes
 
-// The crates above read numbers, conditions and nodes.
+// Numbers, conditions and nodes of bare bytes stand beside a routine's own.
 pub use records::{ConditionRecord, Node, condition_at, node_at, number_at};

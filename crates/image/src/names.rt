@@ -36,6 +36,7 @@ fn count_names(routine: Routine<'_>, counts: &mut [u32])
         × ((routine.nodes ≤ length counts.old) × ((routine.nodes ≤ 1024) × ((k : ℕ) → get_or counts.old k 0 ≡ 0))) }
     ensures { (k : ℕ) → get_or counts.new k 0 ≡ names routine.entry.image.now routine.entry.nodes k }
 {
+    // By the number: an image's nodes are bytes, and no slice of nodes.
     for n in 0..routine.nodes {
         count_node(counts, routine.node(n));
     }

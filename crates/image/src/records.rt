@@ -18,6 +18,7 @@ pub struct Header {
     pub zero: u64,
 }
 
+// The kind is the image's number: before the check any may stand there.
 #[derive(Clone, Copy)]
 pub struct ConditionRecord {
     pub kind: u32,
@@ -26,7 +27,7 @@ pub struct ConditionRecord {
     pub right: usize,
 }
 
-// A node's fields, and those of a number node over the same bits.
+// A node's fields, and those of a number node over the same bits; the kind as of a condition.
 #[derive(Clone, Copy)]
 pub struct Node {
     pub kind: u32,
@@ -39,7 +40,7 @@ pub struct Node {
     pub value: u32,
 }
 
-// The number that n bytes from `at` make, most significant first.
+// The number that n bytes from `at` make, most significant first: n is the caller's, so no array of the library's fits.
 pub fn number_at(image: &[u8], at: usize, n: usize) -> u64
     requires { (n ≤ 8) × (at + n ≤ length image.now) }
     ensures { result ≡ number_at image.now at n }

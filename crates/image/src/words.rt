@@ -4,7 +4,7 @@ ghost use Rattle.std.proofs.lemmas.List.Edits.{sets};
 ghost use Rattle.image.specs.Term.{head_word, condition_word, node_word, bytes_of};
 ghost use Rattle.image.specs.Inner.Words.{HeadFields, ConditionFields, NodeFields};
 
-// The lowest bytes of w, `width` of them, most significant first; the least is stored first.
+// The lowest bytes of w, `width` of them, most significant first; the least is stored first. By the place: the width is the caller's, so no array of the library's fits.
 pub fn put(out: &mut [u8], at: usize, w: u64, width: usize)
     requires { at + width ≤ length out.old }
     ensures { out.new ≡ sets out.old at (bytes_of width w) }
@@ -35,7 +35,7 @@ pub fn condition_word(kind: u32, option: usize, left: usize, right: usize) -> u3
     kind * 0x1000_0000 + (option as u32) * 0x100_0000 + (left as u32) * 0x1000 + (right as u32)
 }
 
-// No kind above 23 is known, so a value of 32 bits never carries out of the word.
+// The fields one by one, as a record of document 01 has them. No kind above 23 is known, so a value of 32 bits never carries out of the word.
 pub fn node_word(kind: u32, variable: usize, value: u32, a: usize, b: usize, c: usize) -> u64
     requires { NodeFields kind variable a b c }
     ensures { result ≡ node_word kind variable value a b c }

@@ -27,7 +27,7 @@ use shared::shared_run;
 // A space that every text fits.
 pub const ENOUGH: usize = 2112;
 
-// The text of a run on what is lent for it.
+// The text of a run on what is lent for it: four slices, as the call takes them from C too.
 fn tell_run(
     image: &[u8],
     set: u64,

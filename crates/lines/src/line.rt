@@ -23,7 +23,7 @@ fn put_field(out: &mut [u8], at: usize, name: &[u8], n: usize, end: u8) -> usize
     put(out, last, &[end])
 }
 
-// "outcome in words (idle, done, fault, out)", between two spaces; no other number has a word.
+// "outcome in words (idle, done, fault, out)", between two spaces; no other number has a word. Outcomes are numbers (plain/src/progress.rt).
 #[tactic(auto, unfolding(crate::specs::Words::word, crate::specs::Words::outcome_words))]
 fn put_word(out: &mut [u8], at: usize, outcome: u8) -> usize
     requires { at + 7 ≤ length out.old }

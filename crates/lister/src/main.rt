@@ -19,7 +19,7 @@ const MOST: usize = 9225;
 // A space that every listing fits.
 const ENOUGH: usize = 124692;
 
-// What listing the stream answers, with the text at the start of `space`.
+// What listing the stream answers, with the text at the start of `space`. By image and n, here and below: `Tells` speaks of the whole space.
 fn tell(image: &[u8], n: usize, space: &mut [u8]) -> Result<usize, Refusal>
     requires image_len { length image.now ≡ most }
     requires n_in_bounds { n ≤ length image.now }

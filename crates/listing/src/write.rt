@@ -15,7 +15,7 @@ use image::{ConditionRecord, Node};
 use imp::signed;
 use text::{put_decimal, put_signed};
 
-// What stands for a sign that is no part, of a record with this variable or option and this number.
+// What stands for a sign that is no part, of a record with this variable or option and this number. One by one: conditions and nodes are other records.
 #[tactic(auto, unfolding(crate::specs::Inner::Spelling::plainly))]
 fn put_plain(
     variable: usize,

@@ -19,7 +19,7 @@ const SPACE: usize = 262145;
 // The longest image: 8 bytes, 256 conditions and 1,024 nodes.
 const IMAGE: usize = 9224;
 
-// What reading the whole text answers, with the image at the start of `space`.
+// What reading the whole text answers, with the image at the start of `space`. By text and n, here and below: `Tells` speaks of the whole space.
 fn tell(text: &[u8], n: usize, space: &mut [u8]) -> Result<usize, Refusal>
     requires n_in_bounds { n < length text.now }
     requires space_len { length space.old ≡ longest }

@@ -1,4 +1,4 @@
-// What a byte of a text can be.
+// What a byte of a text can be, by the ranges that the grammar has (written/specs/Byte).
 ghost use Rattle.std.specs.Prelude.{◌≡◌, get_or};
 ghost use Rattle.written.specs.Byte.{is_space, is_digit, is_run, is_wordy};
 
@@ -33,5 +33,5 @@ pub fn is_wordy(b: u8) -> bool
 pub fn byte_at(text: &[u8], at: usize) -> u8
     ensures { result ≡ get_or text.now at 0 }
 {
-    if at < text.len() { text[at] } else { 0 }
+    text.get(at).copied().unwrap_or(0)
 }

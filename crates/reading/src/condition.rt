@@ -10,7 +10,7 @@ use image::kinds::ConditionKind;
 use image::refusals::Refusal;
 use image::words::condition_word;
 
-// One record more.
+// One record more, by the fields of its word.
 fn store(
     c: Cursor,
     kind: ConditionKind,

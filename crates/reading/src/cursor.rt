@@ -17,5 +17,5 @@ pub struct Cursor {
 pub fn before(next: usize) -> usize
     ensures { result ≡ next - 1 }
 {
-    if next == 0 { 0 } else { next - 1 }
+    next.saturating_sub(1)
 }

@@ -9,7 +9,7 @@ use super::cursor::{Cursor, before};
 use image::kinds::{CONDITION, Kind, OF_A, OF_B, OF_VARIABLE, layout, names_node};
 use image::words::node_word;
 
-// The name of the child that a field holds, where the cursor stands behind it.
+// The name of the child that a field holds, where the cursor stands behind it. Configuring has a count for it and no cursor.
 fn name(slot: u32, c: Cursor) -> usize
     ensures { result ≡ name_of (slot_of slot) c }
 {
@@ -54,7 +54,7 @@ fn own_word(kind: Kind, value: u64, a: usize, b: usize, c: usize) -> u64
     node_word(u32::from(kind), variable, value, a, b, c)
 }
 
-// The node behind its parts; a and b stand behind the first two of them, c behind all.
+// The node behind its parts; a and b stand behind the first two of them, c behind all. One by one: each is another call's answer.
 pub fn finish(kind: Kind, value: u64, a: Cursor, b: Cursor, c: Cursor, nodes: &mut [u64]) -> Cursor
     requires { Finishing (kind_number kind) value a b c nodes.old }
     ensures { Finishes (kind_number kind) value a b c nodes.old nodes.new result }

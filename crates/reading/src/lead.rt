@@ -141,7 +141,7 @@ fn arithmetic_lead(text: &[u8], c: Cursor) -> Result<Lead<Kind>, Refusal>
     }
 }
 
-// How a part of a class begins.
+// How a part of a class begins; the class is a digit of `layout`.
 pub fn part_lead(text: &[u8], class: u32, from: Cursor) -> Result<Lead<Kind>, Refusal>
     requires { Good text.now from × (0 < class) × (class ≤ 3) }
     ensures { LeadFrom text.now class from result }

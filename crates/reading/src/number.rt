@@ -59,10 +59,10 @@ pub struct Number {
 fn least(positive: bool) -> u64
     ensures { result ≡ low positive }
 {
-    if positive { 1 } else { 0 }
+    u64::from(positive)
 }
 
-// The token that has a number from `at` on, from 0 to hi or from 1 to 1 + hi.
+// The token that has a number from `at` on, from 0 to hi or from 1 to 1 + hi. One by one: the five kinds of numbers differ in each.
 pub fn read_number(
     text: &[u8],
     c: Cursor,

@@ -13,7 +13,7 @@ use super::node::behind_a;
 use image::kinds::{CONDITION, Kind, OF_A, OF_B, layout, names_node};
 use image::refusals::Refusal;
 
-// What a field of a kind holds: a condition, a part of a class, or nothing.
+// What a field of a kind holds: a condition, a part of a class, or nothing. One by one, here and below: the text and F are read, the place moves, nodes and records are written.
 #[cycle(field_fields_part)]
 fn field(
     text: &[u8],

@@ -21,7 +21,7 @@ pub fn pass_spaces(text: &[u8], c: Cursor) -> Cursor
 {
     let at = c.at + spaces(&text[c.at..]);
     Cursor {
-        at: at,
+        at,
         tight: c.tight & (at == c.at),
         ..c
     }

@@ -57,9 +57,9 @@ pub fn counted(
     if (nodes <= NODES) & (records <= RECORDS) {
         return Ok(Cursor {
             at: end,
-            tight: tight,
-            nodes: nodes,
-            records: records,
+            tight,
+            nodes,
+            records,
             ..c
         });
     }

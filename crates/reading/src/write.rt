@@ -19,7 +19,7 @@ fn put_words<T: Copy + Into<u64>>(out: &mut [u8], at: usize, words: &[T], width:
     }
 }
 
-// Header, condition records, nodes.
+// Header, condition records, nodes; the spaces hold as many as are counted beside them, and what is behind those is not the text's.
 pub fn write_image(
     options: u64,
     conditions: usize,

@@ -24,7 +24,7 @@ fn tell(input: &[u8], n: usize, space: &mut [u8]) -> usize
     report(&input[..n], space).unwrap()
 }
 
-// Writes nothing but the text of what was read; false if it cannot be written.
+// Writes nothing but the text of what was read; false if it cannot be written. The hall program has its own: each names its own text.
 fn write<W: Write>(out: &mut W, input: &[u8], n: usize, text: &[u8]) -> bool
     requires { Tells input.now n text.now }
 {

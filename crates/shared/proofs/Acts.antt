@@ -14,6 +14,7 @@ use Rattle.imp.specs.State.{Numbers, State, store, thrown, taken}
 use Rattle.imp.specs.Shared.{value_in, Settings, for, Below}
 use Rattle.image.specs.declared.records.Node.{Node}
 use Rattle.image.specs.Bytes.{Bytes}
+use Rattle.image.specs.Sets.{settings}
 use Rattle.image.specs.Tree.{read}
 use Rattle.plain.specs.declared.progress.Progress.{Progress}
 use Rattle.plain.specs.Inner.Progress.{state_of}
@@ -62,28 +63,28 @@ module _ {s : ℕ} {S : Settings} {f : ℕ → State → State} {at : ℕ → St
       go t (yes e) = rw (e, on, eq-eqb s s refl) here
       go t (no e) = rw (ne_eqb t s e) (other t e ∙ elsewhere (S t) (f t (at t)) (at t))
 
-module _ (plan : Plan) (ν : Node) (on : Set) (s : ℕ) (L : Lent) (lent : Measured plan.settings L.store.now (tally_in L)) where
+module _ (l : Bytes) (ν : Node) (on : Set) (s : ℕ) (L : Lent) (lent : Measured (settings l) L.store.now (tally_in L)) where
   -- its part comes back as ys, and its progress is q
-  pub acted : {q : Progress} {ys : Numbers} {L' : Lent} → s < plan.settings → bit on.bits s ≡ true
+  pub acted : {q : Progress} {ys : Numbers} {L' : Lent} → s < settings l → bit on.bits s ≡ true
       → L'.store.now ≡ put_mid (s * 16) ((s * 16 + 16) - s * 16) L.store.now ys → tally_in L' ≡ put s q (tally_in L)
-      → Ran (acting (image_in plan) ν s (state_of (progress (tally_in L) s) (part L.store.now s))) q ys → ActedAt plan ν on s L L'
+      → Ran (acting l ν s (state_of (progress (tally_in L) s) (part L.store.now s))) q ys → ActedAt l ν on s L L'
   unfolding own
   acted {q} {ys} {L'} below here back is-put ran = record {
     acted = changed_here here
         (ap₂ state_of (ap (λ T. progress T s) is-put ∙ progress_put lent.tallied below q s ∙ ap (λ u. cond u q (progress (tally_in L) s)) (eq-eqb s s refl))
-        (ap (λ zs. part zs s) back ∙ back_here L.store.now plan.settings s lent.store_length below ys ran.sixteen)
+        (ap (λ zs. part zs s) back ∙ back_here L.store.now (settings l) s lent.store_length below ys ran.sixteen)
         ∙ ran.reaches)
         (λ t other. ap₂ state_of
         (ap (λ T. progress T t) is-put ∙ progress_put lent.tallied below q t ∙ ap (λ u. cond u q (progress (tally_in L) t)) (ne_eqb t s other))
-        (ap (λ zs. part zs t) back ∙ back_other L.store.now plan.settings s lent.store_length below ys ran.sixteen t other));
+        (ap (λ zs. part zs t) back ∙ back_other L.store.now (settings l) s lent.store_length below ys ran.sixteen t other));
     lent = record {
-      store_length = ap length back ∙ back_length L.store.now plan.settings s lent.store_length below ys ran.sixteen;
-      tallied = subst (λ T. Tallied plan.settings T) (sym is-put) (put_tallied lent.tallied below q ran.proper);
+      store_length = ap length back ∙ back_length L.store.now (settings l) s lent.store_length below ys ran.sixteen;
+      tallied = subst (λ T. Tallied (settings l) T) (sym is-put) (put_tallied lent.tallied below q ran.proper);
     };
   }
 
 -- every setting of the set has had its turn
-pub acted_for : (plan : Plan) (ν : Node) (on : Set) (L L' : Lent) → Below plan.settings (bit on.bits) → Measured plan.settings L'.store.now (tally_in L')
+pub acted_for : (plan : Plan) (ν : Node) (on : Set) (L L' : Lent) → Below plan.settings (bit on.bits) → Measured (settings (image_in plan)) L'.store.now (tally_in L')
     → Upto plan.settings (bit on.bits) (acting (image_in plan) ν) (own L.store.now (tally_in L)) (own L'.store.now (tally_in L')) → ActedFor plan ν on L L'
 unfolding as_shared for
-acted_for plan ν on L L' below lent all = record { acted = λ visits. ap (λ at. record { at = at; visits = visits }) (upto_all below all); lent = lent }
+acted_for plan ν on L L' below lent all = record { acted = λ visits. ap (λ at. record { at = at; visits = visits }) (upto_all below all); lent = subst (λ N. Measured N L'.store.now (tally_in L')) (sym plan.prepared.settings_are) lent }

@@ -6,6 +6,7 @@ pub mod SetOf
 pub mod Tallies
 pub mod Parts
 pub mod Beginning
+pub mod Plans
 pub mod Acts
 pub mod Begun
 pub mod Keeping

@@ -1,6 +1,6 @@
 -- Some of a set: what is asked for holds for them too, and the parts of a choice and of an if are run for whom the meaning says.
-use mathlib.Core.Path.{◌≡◌, sym, ◌∙◌, ap₂, ap}
-use Prim.Native.Nat.{ℕ, ◌<◌}
+use mathlib.Core.Path.{◌≡◌, sym, ◌∙◌, ap₂, ap, subst}
+use Prim.Native.Nat.{ℕ, ◌*◌, ◌<◌}
 use mathlib.Core.Bool.{not, ◌&&◌}
 use native.Mathlib.Omega.{arith}
 use lib.ListN.{get_or}
@@ -17,7 +17,8 @@ use Rattle.image.specs.Sets.{settings}
 use Rattle.shared.specs.declared.lent.Lent.{Lent}
 use Rattle.shared.specs.declared.plan.Plan.{Plan}
 use Rattle.shared.specs.declared.turn.Turn.{Turn}
-use Rattle.shared.specs.Inner.Handed.{image_in, state_in}
+use Rattle.shared.specs.Inner.Lent.{Measured}
+use Rattle.shared.specs.Inner.Handed.{image_in, tally_in, state_in}
 use Rattle.shared.specs.Inner.Prepared.{OfClass}
 use Rattle.shared.specs.Inner.Asking.{AskingFor}
 use Rattle.shared.specs.Inner.Acting.{ActingFor}
@@ -41,14 +42,18 @@ module _ (plan : Plan) (turn : Turn) (L : Lent) (h : Sharing plan turn L) where
 
   pub can_ask : {ν : Node} → ((ν.kind ≡ 22 → ⊥) → OfClass (image_in plan) ν.a 2) → AskingFor plan ν turn.on L
   can_ask test = record {
-    every = record { test = test; outcomes_length = h.lent.tallied.outcomes_length; store_length = h.lent.store_length };
+    every = record {
+      test = test;
+      outcomes_length = h.lent.tallied.outcomes_length ∙ plan.prepared.settings_are;
+      store_length = h.lent.store_length ∙ ap (λ N. N * 16) plan.prepared.settings_are;
+    };
     below = h.below;
   }
 
   pub can_act : {ν : Node} → (layout ν.kind ≡ 0 → ⊥) → ((ν.kind ≡ 22 → ⊥) → OfClass (image_in plan) ν.a 1) → ((ν.kind ≡ 21 → ⊥) → ν.variable < 16)
       → ActingFor plan ν turn.on L
   can_act known expression variable = record {
-    every = record { known = known; expression = expression; variable_below = variable; lent = h.lent };
+    every = record { known = known; expression = expression; variable_below = variable; lent = subst (λ N. Measured N L.store.now (tally_in L)) plan.prepared.settings_are h.lent };
     below = h.below;
   }
 

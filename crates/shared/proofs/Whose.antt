@@ -20,13 +20,13 @@ use Rattle.shared.specs.declared.lent.Lent.{Lent}
 use Rattle.shared.specs.declared.plan.Plan.{Plan}
 use Rattle.shared.specs.Lent.{progress}
 use Rattle.shared.specs.Inner.Lent.{own, as_shared}
-use Rattle.shared.specs.Inner.Handed.{tally_in, state_in}
+use Rattle.shared.specs.Inner.Handed.{image_in, tally_in, state_in}
 use Rattle.shared.specs.Inner.Asking.{asking, answers}
 use Rattle.shared.specs.Inner.Sharing.{tested}
 
 -- the answers of all settings of a set
 abbrev pub Answers : Plan → Node → Settings → Lent → ℕ → Type 0
-Answers plan ν S L found = (t : ℕ) → bit found t ≡ (S t && answers plan ν L t)
+Answers plan ν S L found = (t : ℕ) → bit found t ≡ (S t && answers (image_in plan) ν L t)
 
 module _ (plan : Plan) (ν : Node) (S : Settings) (L : Lent) (visits found : ℕ) (h : Answers plan ν S L found) where
   -- "the settings where the test is true"

@@ -2,7 +2,7 @@
 ghost use Rattle.plain.specs.Inner.Progress.{state_of};
 ghost use Rattle.plain.specs.Inner.Running.{Ran};
 ghost use Rattle.shared.specs.Inner.Handed.{Same};
-ghost use Rattle.shared.specs.Inner.Acting.{acting, Acts, ActingAt, ActedAt, ActingFor, ActedFor};
+ghost use Rattle.shared.specs.Inner.Acting.{acting, Acts, Acting, ActedAt, ActingFor, ActedFor};
 
 use crate::lent::Lent;
 use crate::plan::Plan;
@@ -26,19 +26,20 @@ fn act(setting: &Setting<'_>, node: Node, p: Progress, numbers: &mut [i32]) -> P
     }
 }
 
-// In setting s, if it is of the set: its part of the store is lent on.
-fn act_at(plan: &Plan<'_>, node: Node, on: Set, s: usize, lent: &mut Lent<'_>)
-    requires { ActingAt plan.now node s lent.old }
-    ensures acted { ActedAt plan.now node on s lent.old lent.new }
+// In one setting, if it is of the set: its part of the store is lent on.
+fn act_at(setting: &Setting<'_>, node: Node, on: Set, lent: &mut Lent<'_>)
+    requires { Acting setting.now.routine.image.now node lent.old }
+    ensures acted { ActedAt setting.now.routine.image.now node on setting.now.s lent.old lent.new }
     ensures same { Same lent.old lent.new }
 {
-    if !on.has(s as u64) {
+    if !on.has(setting.s) {
         return;
     }
+    let s = setting.s as usize;
     let at = s * 16;
     let end = at + 16;
     let p = lent.progress(s);
-    let q = act(&plan.setting(s), node, p, &mut lent.store[at..end]);
+    let q = act(setting, node, p, &mut lent.store[at..end]);
     lent.set_progress(s, q);
 }
 
@@ -48,7 +49,10 @@ pub fn act_for(plan: &Plan<'_>, node: Node, on: Set, lent: &mut Lent<'_>)
     ensures acted { ActedFor plan.now node on lent.old lent.new }
     ensures same { Same lent.old lent.new }
 {
+    // One setting goes through all numbers: to make each anew would be seen in the time.
+    let mut setting = plan.setting(0);
     for s in 0..plan.settings {
-        act_at(plan, node, on, s, lent);
+        setting.s = s as u64;
+        act_at(&setting, node, on, lent);
     }
 }

@@ -1,7 +1,8 @@
 // What a statement asks of each setting it is run for: an if and a while ask their test, a try asks whether its body ended in fault.
 ghost use Rattle.std.specs.Prelude.{◌≡◌, ◌&&◌, ◌||◌, ℕ, eqb};
 ghost use Rattle.sets.specs.Member.{has};
-ghost use Rattle.shared.specs.Inner.Asking.{asking, answers, Asks, AskingAt, AskingFor};
+ghost use Rattle.shared.specs.Inner.Handed.{image_in};
+ghost use Rattle.shared.specs.Inner.Asking.{asking, answers, Asks, Asking, AskingFor};
 
 use crate::lent::Lent;
 use crate::plan::Plan;
@@ -18,25 +19,27 @@ fn ask(setting: &Setting<'_>, node: Node, outcome: u8, numbers: &[i32]) -> bool
     requires { Asks setting.now.routine.image.now node numbers.now }
     ensures { result ≡ asking setting.now.routine.image.now node setting.now.s outcome numbers.now }
 {
-    if node.kind == Kind::Try as u32 {
+    if node.kind == u32::from(Kind::Try) {
         return outcome == FAULT;
     }
     boolean(setting, node.a, numbers)
 }
 
-// Setting s joins those found if it is of the set and the answer is yes.
-fn ask_at(plan: &Plan<'_>, node: Node, on: Set, s: usize, found: Set, lent: &Lent<'_>) -> Set
-    requires { AskingAt plan.now node s lent.now }
-    ensures { (t : ℕ) → has result t ≡ (has found t || ((has on t && eqb t s) && answers plan.now node lent.now t)) }
+// The setting joins those found if it is of the set and the answer is yes.
+fn ask_at(setting: &Setting<'_>, node: Node, on: Set, found: Set, lent: &Lent<'_>) -> Set
+    requires { Asking setting.now.routine.image.now node lent.now }
+    ensures { (t : ℕ) → has result t ≡
+        (has found t || ((has on t && eqb t setting.now.s) && answers setting.now.routine.image.now node lent.now t)) }
 {
-    if !on.has(s as u64) {
+    if !on.has(setting.s) {
         return found;
     }
+    let s = setting.s as usize;
     let at = s * 16;
     let end = at + 16;
     let outcome = lent.outcomes[s];
-    if ask(&plan.setting(s), node, outcome, &lent.store[at..end]) {
-        return found.with(s as u64);
+    if ask(setting, node, outcome, &lent.store[at..end]) {
+        return found.with(setting.s);
     }
     found
 }
@@ -44,11 +47,14 @@ fn ask_at(plan: &Plan<'_>, node: Node, on: Set, s: usize, found: Set, lent: &Len
 // The settings of the set in which the answer is yes.
 pub fn ask_for(plan: &Plan<'_>, node: Node, on: Set, lent: &Lent<'_>) -> Set
     requires { AskingFor plan.now node on lent.now }
-    ensures { (t : ℕ) → has result t ≡ (has on t && answers plan.now node lent.now t) }
+    ensures { (t : ℕ) → has result t ≡ (has on t && answers (image_in plan.now) node lent.now t) }
 {
     let mut found = Set::empty();
+    // One setting goes through all numbers: to make each anew would be seen in the time.
+    let mut setting = plan.setting(0);
     for s in 0..plan.settings {
-        found = ask_at(plan, node, on, s, found, lent);
+        setting.s = s as u64;
+        found = ask_at(&setting, node, on, found, lent);
     }
     found
 }

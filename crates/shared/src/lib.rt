@@ -1,10 +1,9 @@
 // The run over a set of settings.
 #![tactic(auto)]
 
-ghost use Rattle.std.specs.Prelude.{◌≡◌, ◌&&◌, ◌*◌, ◌^◌, ◌≤◌, [], eqb, Ok};
+ghost use Rattle.std.specs.Prelude.{◌≡◌, ◌^◌, ◌≤◌, [], Ok};
 ghost use Rattle.imp.specs.Shared.{beyond};
 ghost use Rattle.image.specs.Check.{shape_of};
-ghost use Rattle.image.specs.Sets.{settings};
 ghost use Rattle.image.specs.Accepted.{Accepted};
 ghost use Rattle.shared.specs.Lent.{tally};
 ghost use Rattle.shared.specs.SharedRun.{SharedRuns, set_rows, shared_rows};
@@ -15,7 +14,7 @@ mod act; // act.rt: what a statement does by itself in each setting
 mod ask; // ask.rt: what a statement asks of each setting
 mod begin; // begin.rt: a statement is begun
 mod ended; // ended.rt: who has ended how
-mod lent; // lent.rt: one setting's share of what is lent
+mod lent; // lent.rt: what is lent, and one setting's share of it
 mod plan; // plan.rt: what stays the same all through a run
 mod run; // run.rt: a statement
 mod start; // start.rt: where a run starts
@@ -103,6 +102,7 @@ fn run_accepted(
 }
 
 // "The shared run takes the image, a set, a budget, a store of 16N numbers .. N outcomes, N codes and N step counts": refusals 1 to 8, 9, 10, 12.
+// Each slice by itself, as C lends it.
 pub fn shared_run(
     image: &[u8],
     set: Set,
@@ -112,10 +112,8 @@ pub fn shared_run(
     codes: &mut [i32],
     steps: &mut [u32],
 ) -> Result<Ends, Refusal>
-    ensures { SharedRuns
-        (shared_rows image.now set.bits budget store.old
-        (tally outcomes.old codes.old steps.old)) image.now set.bits budget
-        store.old (tally outcomes.old codes.old steps.old) store.new
+    ensures { SharedRuns (shared_rows image.now set.bits budget store.old (tally outcomes.old codes.old steps.old)) image.now
+        set.bits budget store.old (tally outcomes.old codes.old steps.old) store.new
         (tally outcomes.new codes.new steps.new) result }
 {
     let shape = check(image)?;

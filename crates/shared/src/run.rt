@@ -19,10 +19,7 @@ use sets::Set;
 pub fn run(plan: &Plan<'_>, n: usize, turn: Turn, lent: &mut Lent<'_>) -> u32
     requires of_class { OfClass (image_in plan.now) n 3 }
     requires sharing { Sharing plan.now turn lent.old }
-    ensures shares { Shares plan.now.settings
-        (sharing plan.now n (bit turn.on.bits)
-        (state_in lent.old turn.visits)) result
-        lent.new }
+    ensures shares { Shares plan.now.settings (sharing plan.now n (bit turn.on.bits) (state_in lent.old turn.visits)) result lent.new }
     ensures same { Same lent.old lent.new }
 {
     let node = plan.routine.node(n);
@@ -47,17 +44,13 @@ pub fn run(plan: &Plan<'_>, n: usize, turn: Turn, lent: &mut Lent<'_>) -> u32
     }
 }
 
-// One statement for the settings of a set, and then another for the rest.
+// One statement for the settings of a set, and then another for the rest: two statements and two sets, so six parameters.
 #[cycle(attempt_both_choose_decide_follow_repeat_run)]
 fn both(plan: &Plan<'_>, x: usize, y: usize, turn: Turn, rest: Set, lent: &mut Lent<'_>) -> u32
     requires of_class { OfClass (image_in plan.now) x 3 × OfClass (image_in plan.now) y 3 }
     requires sharing { Sharing plan.now turn lent.old }
     requires sharing_2 { Sharing plan.now (record turn { on = rest }) lent.old }
-    ensures shares { Shares plan.now.settings
-        (sharing plan.now y (bit rest.bits)
-        (sharing plan.now x (bit turn.on.bits)
-        (state_in lent.old turn.visits)))
-        result lent.new }
+    ensures shares { Shares plan.now.settings (sharing plan.now y (bit rest.bits) (sharing plan.now x (bit turn.on.bits) (state_in lent.old turn.visits))) result lent.new }
     ensures same { Same lent.old lent.new }
 {
     let visits = run(plan, x, turn, lent);
@@ -74,10 +67,7 @@ fn both(plan: &Plan<'_>, x: usize, y: usize, turn: Turn, rest: Set, lent: &mut L
 fn choose(plan: &Plan<'_>, node: Node, turn: Turn, lent: &mut Lent<'_>) -> u32
     requires chooses { Chooses plan.now node }
     requires sharing { Sharing plan.now turn lent.old }
-    ensures shares { Shares plan.now.settings
-        (choosing plan.now node (bit turn.on.bits)
-        (state_in lent.old turn.visits)) result
-        lent.new }
+    ensures shares { Shares plan.now.settings (choosing plan.now node (bit turn.on.bits) (state_in lent.old turn.visits)) result lent.new }
     ensures same { Same lent.old lent.new }
 {
     let chosen = Set::at(plan.sets, node.a);
@@ -94,10 +84,7 @@ fn choose(plan: &Plan<'_>, node: Node, turn: Turn, lent: &mut Lent<'_>) -> u32
 fn follow(plan: &Plan<'_>, node: Node, turn: Turn, lent: &mut Lent<'_>) -> u32
     requires follows { Follows plan.now node }
     requires sharing { Sharing plan.now turn lent.old }
-    ensures shares { Shares plan.now.settings
-        (following plan.now node (bit turn.on.bits)
-        (state_in lent.old turn.visits)) result
-        lent.new }
+    ensures shares { Shares plan.now.settings (following plan.now node (bit turn.on.bits) (state_in lent.old turn.visits)) result lent.new }
     ensures same { Same lent.old lent.new }
 {
     both(plan, node.a, node.b, turn, turn.on, lent)
@@ -108,10 +95,7 @@ fn follow(plan: &Plan<'_>, node: Node, turn: Turn, lent: &mut Lent<'_>) -> u32
 fn decide(plan: &Plan<'_>, node: Node, turn: Turn, lent: &mut Lent<'_>) -> u32
     requires decides { Decides plan.now node }
     requires sharing { Sharing plan.now turn lent.old }
-    ensures shares { Shares plan.now.settings
-        (deciding plan.now node (bit turn.on.bits)
-        (state_in lent.old turn.visits)) result
-        lent.new }
+    ensures shares { Shares plan.now.settings (deciding plan.now node (bit turn.on.bits) (state_in lent.old turn.visits)) result lent.new }
     ensures same { Same lent.old lent.new }
 {
     let yes = ask_for(plan, node, turn.on, lent);
@@ -125,17 +109,13 @@ fn decide(plan: &Plan<'_>, node: Node, turn: Turn, lent: &mut Lent<'_>) -> u32
 fn repeat(plan: &Plan<'_>, node: Node, turn: Turn, lent: &mut Lent<'_>) -> u32
     requires repeats { Repeats plan.now node }
     requires sharing { Sharing plan.now turn lent.old }
-    ensures shares { Shares plan.now.settings
-        (turning plan.now node (bit turn.on.bits)
-        (state_in lent.old turn.visits)) result
-        lent.new }
+    ensures shares { Shares plan.now.settings (turning plan.now node (bit turn.on.bits) (state_in lent.old turn.visits)) result lent.new }
     ensures same { Same lent.old lent.new }
 {
-    let b = node.b;
     let yes = ask_for(plan, node, turn.on, lent);
     let mut now = Turn { on: yes, ..turn };
     while !now.on.is_empty() {
-        let visits = run(plan, b, now, lent);
+        let visits = run(plan, node.b, now, lent);
         let left = begin_for(plan, Turn { visits, ..now }, lent);
         let again = ask_for(plan, node, left.on, lent);
         now = Turn { on: again, ..left };
@@ -148,15 +128,10 @@ fn repeat(plan: &Plan<'_>, node: Node, turn: Turn, lent: &mut Lent<'_>) -> u32
 fn attempt(plan: &Plan<'_>, node: Node, turn: Turn, lent: &mut Lent<'_>) -> u32
     requires attempts { Attempts plan.now node }
     requires sharing { Sharing plan.now turn lent.old }
-    ensures shares { Shares plan.now.settings
-        (trying plan.now node (bit turn.on.bits)
-        (state_in lent.old turn.visits)) result
-        lent.new }
+    ensures shares { Shares plan.now.settings (trying plan.now node (bit turn.on.bits) (state_in lent.old turn.visits)) result lent.new }
     ensures same { Same lent.old lent.new }
 {
-    let a = node.a;
-    let b = node.b;
-    let visits = run(plan, a, turn, lent);
+    let visits = run(plan, node.a, turn, lent);
     let yes = ask_for(plan, node, turn.on, lent);
     let own = Turn {
         on: yes,
@@ -164,5 +139,5 @@ fn attempt(plan: &Plan<'_>, node: Node, turn: Turn, lent: &mut Lent<'_>) -> u32
         ..turn
     };
     act_for(plan, node, yes, lent);
-    run(plan, b, own, lent)
+    run(plan, node.b, own, lent)
 }

@@ -1,7 +1,7 @@
 // What the programs share: standard input read into a space, to its end or until that is full, and a refusal said on standard error.
 #![tactic(auto)]
 
-ghost use Rattle.std.specs.Prelude.{◌≡◌, ◌≤◌, length, IfOk, IfErr};
+ghost use Rattle.std.specs.Prelude.{◌≡◌, ℕ, ◌≤◌, length, get_or, IfOk, IfErr};
 ghost use Rattle.image.specs.Refusals.{number_of, place_of};
 ghost use Rattle.lines.specs.Text.{refusal_line};
 ghost use Rattle.streams.specs.Streams.{most};
@@ -14,9 +14,10 @@ use std::io::{Read, Write};
 #[derive(Clone, Copy, PartialEq, Eq)]
 pub struct Failed(pub usize);
 
-// Zeros. The `ensures` gives only how many, and no proof has to look at so many of them.
+// Zeros, handed out by a function so that no proof has to look at so many of them.
 pub fn blank<const N: usize>() -> [u8; N]
-    ensures { N ≡ length result }
+    ensures length { N ≡ length result }
+    ensures zeros { (k : ℕ) → get_or result k 0 ≡ 0 }
 {
     [0; N]
 }
@@ -27,6 +28,7 @@ pub fn read_input<R: Read>(input: &mut R, space: &mut [u8]) -> Result<usize, Fai
     ensures ok { IfOk result (λ n. n ≤ length space.new) }
     ensures err { IfErr result (λ e. e.0 ≤ length space.new) }
 {
+    // Not one by one: a read brings as many bytes as it likes.
     let mut done = 0;
     while done < space.len() {
         match input.read(&mut space[done..]) {

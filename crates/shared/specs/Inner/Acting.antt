@@ -7,6 +7,7 @@ use Rattle.imp.specs.Shared.{value_in, for, Below}
 use Rattle.image.specs.declared.records.Node.{Node}
 use Rattle.image.specs.Bytes.{Bytes}
 use Rattle.image.specs.Layout.{layout}
+use Rattle.image.specs.Sets.{settings}
 use Rattle.image.specs.Tree.{read}
 use Rattle.plain.specs.declared.progress.Progress.{Progress}
 use Rattle.plain.specs.Inner.Evaluating.{Evaluating}
@@ -35,24 +36,20 @@ pub record Acts (l : Bytes) (ν : Node) (p : Progress) (ns : List ℤ) : Type 0 
 
 -- ---- one setting of all
 
-pub record Acting (plan : Plan) (ν : Node) (L : Lent) : Type 0 where
+pub record Acting (l : Bytes) (ν : Node) (L : Lent) : Type 0 where
   pub known : layout ν.kind ≡ 0 → ⊥
-  pub expression : (ν.kind ≡ 22 → ⊥) → OfClass (image_in plan) ν.a 1
+  pub expression : (ν.kind ≡ 22 → ⊥) → OfClass l ν.a 1
   pub variable_below : (ν.kind ≡ 21 → ⊥) → ν.variable < 16
-  pub lent : Measured plan.settings L.store.now (tally_in L)
+  pub lent : Measured (settings l) L.store.now (tally_in L)
 
-pub record ActingAt (plan : Plan) (ν : Node) (s : ℕ) (L : Lent) : Type 0 where
-  pub every : Acting plan ν L
-  pub setting_below : s < plan.settings
-
-pub record ActedAt (plan : Plan) (ν : Node) (on : Set) (s : ℕ) (L L' : Lent) : Type 0 where
-  pub acted : Only s (bit on.bits) (acting (image_in plan) ν) (own L.store.now (tally_in L)) (own L'.store.now (tally_in L'))
-  pub lent : Measured plan.settings L'.store.now (tally_in L')
+pub record ActedAt (l : Bytes) (ν : Node) (on : Set) (s : ℕ) (L L' : Lent) : Type 0 where
+  pub acted : Only s (bit on.bits) (acting l ν) (own L.store.now (tally_in L)) (own L'.store.now (tally_in L'))
+  pub lent : Measured (settings l) L'.store.now (tally_in L')
 
 -- ---- the settings of a set
 
 pub record ActingFor (plan : Plan) (ν : Node) (on : Set) (L : Lent) : Type 0 where
-  pub every : Acting plan ν L
+  pub every : Acting (image_in plan) ν L
   pub below : Below plan.settings (bit on.bits)
 
 pub record ActedFor (plan : Plan) (ν : Node) (on : Set) (L L' : Lent) : Type 0 where
