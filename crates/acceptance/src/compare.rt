@@ -56,7 +56,8 @@ fn setting_holds(
     untouched(s, p, left)
 }
 
-// Every setting holds, and the visits are "at most their sum". The slices one by one, as `shared_run` takes them.
+// Every setting holds, and the visits are "at most their sum". The slices one by one, as `shared_run` takes them; its
+// `Lent` is its own.
 fn all_hold(
     image: &[u8],
     set: Set,

@@ -16,7 +16,7 @@ fn name(slot: u32, next: usize) -> usize
     if names_node(slot) { next - 1 } else { 0 }
 }
 
-// Only a number has a value.
+// Only a number has a value. By the number of its kind, since it asks nothing of the node; reading has a kind and a value.
 fn value_of(node: Node) -> u32
     ensures { result ≡ cond (eqb node.kind 0) node.value 0 }
 {

@@ -36,7 +36,7 @@ fn answer_to<W: Write, E: Write>(out: &mut W, errors: &mut E, input: &[u8], n: u
     }
 }
 
-// "it reads no more than 9,237 bytes"
+// "it reads no more than 9,237 bytes". Each program has a `main`, with its own space and its own words.
 fn main(rt: HostRuntime) {
     let mut input = [0u8; MOST];
     match read_input(&mut rt.stdin(), &mut input) {

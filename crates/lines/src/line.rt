@@ -59,7 +59,7 @@ pub fn put_lines(out: &mut [u8], outcomes: &[u8], codes: &[i32], steps: &[u32]) 
     ensures upper_bound { result ≤ 2048 }
 {
     let mut at = 0;
-    // By the setting's number: its outcome, code and steps stand in three slices.
+    // By the setting's number: its outcome, code and steps stand in three slices. (`Lent::progress` is the shared run's own.)
     for s in 0..outcomes.len() {
         let p = Progress {
             outcome: outcomes[s],

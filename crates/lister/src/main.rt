@@ -61,6 +61,7 @@ fn answer_to<W: Write, E: Write>(out: &mut W, errors: &mut E, image: &[u8], n: u
     }
 }
 
+// Each program has a `main`, with its own space and its own words.
 fn main(rt: HostRuntime) {
     let mut image = [0u8; MOST];
     match read_input(&mut rt.stdin(), &mut image) {

@@ -7,7 +7,7 @@ ghost use Rattle.listing.specs.Inner.Spelling.{spelling, condition_spelling};
 
 use image::kinds::{ConditionKind, Kind};
 
-// Each row as long as the longest, as the definition's rows are (specs/Inner/Spelling).
+// Signs are bytes, and each row is as long as the longest, as the definition's rows are (specs/Inner/Spelling).
 #[tactic(auto, unfolding(crate::specs::Inner::Spelling::spelling, crate::specs::Inner::Spelling::spellings))]
 pub fn spelling(kind: Kind) -> &'static [u8]
     ensures { result.now ≡ spelling (kind_number kind) }

@@ -75,6 +75,7 @@ fn list_condition(routine: Routine<'_>, k: usize, at: usize, out: &mut [u8]) -> 
     end
 }
 
+// What stands for a sign of a node at a level, one by one as in `put_plain`.
 #[cycle(list_node_put_sign)]
 fn put_sign(
     routine: Routine<'_>,

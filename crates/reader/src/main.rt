@@ -59,6 +59,7 @@ fn answer_to<W: Write, E: Write>(out: &mut W, errors: &mut E, text: &[u8], n: us
     }
 }
 
+// Each program has a `main`, with its own space and its own words.
 fn main(rt: HostRuntime) {
     let mut text = blank::<SPACE>();
     match read_input(&mut rt.stdin(), &mut text) {

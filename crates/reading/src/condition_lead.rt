@@ -12,7 +12,7 @@ use super::token::{Opens, word};
 use image::kinds::ConditionKind;
 use image::refusals::Refusal;
 
-// A word or mark that opens a record of a kind; `by_word` opens a node of another enum.
+// A word or mark that opens a record of a kind. `by_word` stays beside it: its contract names a node, and the kind by its number.
 fn by_record(
     text: &[u8],
     c: Cursor,

@@ -51,6 +51,7 @@ pub fn act_for(plan: &Plan<'_>, node: Node, on: Set, lent: &mut Lent<'_>)
 {
     // One setting goes through all numbers: to make each anew would be seen in the time.
     let mut setting = plan.setting(0);
+    // By the setting's number: what is lent stands in slices of C's, side by side. Each of the three loops does another thing to it.
     for s in 0..plan.settings {
         setting.s = s as u64;
         act_at(&setting, node, on, lent);

@@ -19,6 +19,7 @@ fn ask(setting: &Setting<'_>, node: Node, outcome: u8, numbers: &[i32]) -> bool
     requires { Asks setting.now.routine.image.now node numbers.now }
     ensures { result ≡ asking setting.now.routine.image.now node setting.now.s outcome numbers.now }
 {
+    // By the number: `Asks` does not say that the kind is known.
     if node.kind == u32::from(Kind::Try) {
         return outcome == FAULT;
     }
@@ -52,6 +53,7 @@ pub fn ask_for(plan: &Plan<'_>, node: Node, on: Set, lent: &Lent<'_>) -> Set
     let mut found = Set::empty();
     // One setting goes through all numbers: to make each anew would be seen in the time.
     let mut setting = plan.setting(0);
+    // By the setting's number: what is lent stands in slices of C's, side by side. Each of the three loops does another thing to it.
     for s in 0..plan.settings {
         setting.s = s as u64;
         found = ask_at(&setting, node, on, found, lent);

@@ -35,7 +35,7 @@ pub fn begin_for(plan: &Plan<'_>, turn: Turn, lent: &mut Lent<'_>) -> Turn
     ensures same { Same lent.old lent.new }
 {
     let mut left = Set::empty();
-    // By the setting's number: what is lent stands in slices of C's, side by side.
+    // By the setting's number: what is lent stands in slices of C's, side by side. Each of the three loops does another thing to it.
     for s in 0..plan.settings {
         left = begin_at(plan, turn.on, s, left, lent);
     }
