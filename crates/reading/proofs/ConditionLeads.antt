@@ -125,16 +125,20 @@ module _ (text : Bytes) (F : ℕ) (c : Cursor) (M : Met text c) where
   -- no condition begins so
   pub none_from : (b : ℕ) → b ≡ byte → (b ≡ 116 → ⊥) → (b ≡ 102 → ⊥) → (b ≡ 110 → ⊥) → (b ≡ 40 → ⊥) → (b ≡ 111 → F ≡ 0) → ConditionFrom text F c (Err (TextWrong c.at))
   unfolding final so_far leads counted
-  none_from b e n1 n2 n3 n4 n5 = λ h w k.
-      stuck text (plain w [] c.tight (wanted h)) c.at (record {
-        inside = M.good.inside;
-        no_step = λ i. enters text w c.tight (wanted h) byte M.faces.no_space M.faces.apart
-            ∙ subst (λ b. begin w (wanted h) b ≡ none) e (none_begins w F conditions h b (λ d. refl)
-            (ne_eqb b 116 n1, (ne_eqb b 102 n2, (ne_eqb b 110 n3, (ne_eqb b 40 n4, no_option w F h b n5)))));
-        no_end = λ i. absurd (omega (arith, i, M.faces.before_end));
-        no_limit = none_limits text (c.at + 0) (refused_17 c.at) (first_too_many (reverse w.spots))
-            (within_limits w.spots (omega (arith, k.nodes_are, M.good.few_nodes)) (omega (arith, k.records_are, M.good.few_records)));
-      })
+  none_from b e n1 n2 n3 n4 n5 = λ h. record {
+    forth = omega arith;
+    inside = M.good.inside;
+    says = λ w k.
+        stuck text (plain w [] c.tight (wanted h)) c.at (record {
+          inside = M.good.inside;
+          no_step = λ i. enters text w c.tight (wanted h) byte M.faces.no_space M.faces.apart
+              ∙ subst (λ b. begin w (wanted h) b ≡ none) e (none_begins w F conditions h b (λ d. refl)
+              (ne_eqb b 116 n1, (ne_eqb b 102 n2, (ne_eqb b 110 n3, (ne_eqb b 40 n4, no_option w F h b n5)))));
+          no_end = λ i. absurd (omega (arith, i, M.faces.before_end));
+          no_limit = none_limits text (c.at + 0) (refused_17 c.at) (first_too_many (reverse w.spots))
+              (within_limits w.spots (omega (arith, k.nodes_are, M.good.few_nodes)) (omega (arith, k.records_are, M.good.few_records)));
+        });
+  }
 
   -- ---- an option, below F
 

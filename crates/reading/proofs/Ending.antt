@@ -50,14 +50,18 @@ module _ (text : Bytes) (c d : Cursor) (g : Good text c) (e : d ≡ passed text 
   -- more stands here
   no_more : (R : Reading) → (d.at ≡ length text → ⊥) → Refuses text d (done R) (TextWrong d.at)
   unfolding step between final so_far
-  no_more R n = λ w k.
-      let i : d.at < length text = omega (arith, n, good.inside) in
-      stuck text (plain w [] d.tight (done R)) d.at (record {
-        inside = good.inside;
-        no_step = λ j. ap (λ u. between_by w u (d.tight && is_wordy (get_or text d.at 0)) (done R) (get_or text d.at 0)) (P.stops i) ∙ shut w R (d.tight && is_wordy (get_or text d.at 0));
-        no_end = λ j. absurd (omega (arith, i, j));
-        no_limit = none_limits text (d.at + 0) (refused_17 d.at) (first_too_many (reverse w.spots)) (within_limits w.spots (few w k).0 (few w k).1);
-      })
+  no_more R n = record {
+    forth = omega arith;
+    inside = good.inside;
+    says = λ w k.
+        let i : d.at < length text = omega (arith, n, good.inside) in
+        stuck text (plain w [] d.tight (done R)) d.at (record {
+          inside = good.inside;
+          no_step = λ j. ap (λ u. between_by w u (d.tight && is_wordy (get_or text d.at 0)) (done R) (get_or text d.at 0)) (P.stops i) ∙ shut w R (d.tight && is_wordy (get_or text d.at 0));
+          no_end = λ j. absurd (omega (arith, i, j));
+          no_limit = none_limits text (d.at + 0) (refused_17 d.at) (first_too_many (reverse w.spots)) (within_limits w.spots (few w k).0 (few w k).1);
+        });
+  }
     where
       shut : (w : Log) (R : Reading) (v : Bool) → between_by w false v (done R) (get_or text d.at 0) ≡ none
       shut w R true = refl

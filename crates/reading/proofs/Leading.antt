@@ -224,11 +224,15 @@ module _ (text : Bytes) (class : ℕ) (c : Cursor) (B : Met text c) where
   -- no part of the class begins so
   pub nothing_from : ((F : ℕ) (g : Part → Stack) (w : Log) → begin w (wanted F g) byte ≡ none) → LeadFrom text class c (Err (TextWrong c.at))
   unfolding final so_far
-  nothing_from none_fits = λ F g w k.
-      stuck text (plain w [] c.tight (wanted F g)) c.at (record {
-        inside = B.good.inside;
-        no_step = λ i. enters text w c.tight (wanted F g) byte B.faces.no_space B.faces.apart ∙ none_fits F g w;
-        no_end = λ i. absurd (omega (arith, i, B.faces.before_end));
-        no_limit = none_limits text (c.at + 0) (refused_17 c.at) (first_too_many (reverse w.spots))
-            (within_limits w.spots (omega (arith, k.nodes_are, B.good.few_nodes)) (omega (arith, k.records_are, B.good.few_records)));
-      })
+  nothing_from none_fits = λ F g. record {
+    forth = omega arith;
+    inside = B.good.inside;
+    says = λ w k.
+        stuck text (plain w [] c.tight (wanted F g)) c.at (record {
+          inside = B.good.inside;
+          no_step = λ i. enters text w c.tight (wanted F g) byte B.faces.no_space B.faces.apart ∙ none_fits F g w;
+          no_end = λ i. absurd (omega (arith, i, B.faces.before_end));
+          no_limit = none_limits text (c.at + 0) (refused_17 c.at) (first_too_many (reverse w.spots))
+              (within_limits w.spots (omega (arith, k.nodes_are, B.good.few_nodes)) (omega (arith, k.records_are, B.good.few_records)));
+        });
+  }

@@ -114,8 +114,8 @@ module _ (text : Bytes) (c : Cursor) (g : Good text c) (end : ℕ) (tight : Bool
     where
       first_over : (u : Bool) → (tight && is_run (get_or text end 0)) ≡ u → (leb (c.nodes + node_of o) NODES && leb (c.records + record_in o) RECORDS) ≡ false
           → Leads text c A S o (cond u (Err (TextWrong end)) (Err (TooMany c.at)))
-      first_over true e f = λ w k. read w k ∙ goes_on w k e
-      first_over false e f = λ w k. read w k ∙ is_over w k e f
+      first_over true e f = record { forth = omega arith; inside = inside; says = λ w k. read w k ∙ goes_on w k e }
+      first_over false e f = record { forth = omega arith; inside = g.inside; says = λ w k. read w k ∙ is_over w k e f }
 
       by : (u : Bool) → (leb (c.nodes + node_of o) NODES && leb (c.records + record_in o) RECORDS) ≡ u
           → Leads text c A S o (cond u (Ok (record { at = end; tight = tight; nodes = c.nodes + node_of o; records = c.records + record_in o; node = c.node; condition = c.condition }))

@@ -131,14 +131,18 @@ module _ (text : Bytes) where
       → (d.at < length text → is_space (get_or text d.at 0) ≡ false) → (d.at < length text → (d.tight && is_wordy (get_or text d.at 0)) ≡ true)
       → Refuses text d A (TextWrong d.at)
   unfolding step between final so_far
-  refused_here d A g e n t = λ w k.
-      stuck text (plain w [] d.tight A) d.at (record {
-        inside = g.inside;
-        no_step = λ i. ap₂ (λ u v. between_by w u v A (get_or text d.at 0)) (n i) (t i);
-        no_end = λ i. e w;
-        no_limit = none_limits text (d.at + 0) (refused_17 d.at) (first_too_many (reverse w.spots))
-            (within_limits w.spots (omega (arith, k.nodes_are, g.few_nodes)) (omega (arith, k.records_are, g.few_records)));
-      })
+  refused_here d A g e n t = record {
+    forth = omega arith;
+    inside = g.inside;
+    says = λ w k.
+        stuck text (plain w [] d.tight A) d.at (record {
+          inside = g.inside;
+          no_step = λ i. ap₂ (λ u v. between_by w u v A (get_or text d.at 0)) (n i) (t i);
+          no_end = λ i. e w;
+          no_limit = none_limits text (d.at + 0) (refused_17 d.at) (first_too_many (reverse w.spots))
+              (within_limits w.spots (omega (arith, k.nodes_are, g.few_nodes)) (omega (arith, k.records_are, g.few_records)));
+        });
+  }
 
   module _ (c : Cursor) (g : Good text c) where
     -- the same of each way, where something is still to come

@@ -65,14 +65,18 @@ module _ (text : Bytes) (c : Cursor) (g : Good text c) (A : Stack) where
     -- the first byte is another
     other : eqb (get_or text c.at 0) x.head ≡ false → Leads text c A S o (Err (TextWrong (c.at + 0)))
     unfolding final so_far
-    other e =
-        (λ w k. stuck text (plain w [] c.tight A) c.at (record {
-          inside = g.inside;
-          no_step = λ i. enters text w c.tight A (get_or text c.at 0) (f.no_space) (f.apart) ∙ miss w e;
-          no_end = λ i. absurd (omega (arith, i, f.before_end));
-          no_limit = none_limits text (c.at + 0) (refused_17 c.at) (first_too_many (reverse w.spots)) (within_limits w.spots (few_nodes w k) (few_records w k));
-        })
-        ∙ ap refused_17 (omega arith))
+    other e = record {
+      forth = omega arith;
+      inside = omega (arith, g.inside);
+      says = λ w k.
+          stuck text (plain w [] c.tight A) c.at (record {
+            inside = g.inside;
+            no_step = λ i. enters text w c.tight A (get_or text c.at 0) (f.no_space) (f.apart) ∙ miss w e;
+            no_end = λ i. absurd (omega (arith, i, f.before_end));
+            no_limit = none_limits text (c.at + 0) (refused_17 c.at) (first_too_many (reverse w.spots)) (within_limits w.spots (few_nodes w k) (few_records w k));
+          })
+          ∙ ap refused_17 (omega arith);
+    }
 
     abbrev wordy : Bool
     wordy = is_wordy x.head
@@ -111,7 +115,9 @@ module _ (text : Bytes) (c : Cursor) (g : Good text c) (A : Stack) where
         inside = omega (arith, (r none_yet).inside)
 
         by : (u : Bool) → ltb (suc j) (suc (length x.rest)) ≡ u → Leads text c A S o (cond u (Err (TextWrong (c.at + suc j))) (counted_to text c (c.at + suc j) wordy o))
-        by true t = let h = ltb-true (suc j) (suc (length x.rest)) t in (λ w k. (spelled w j e (r w)).0 (omega (arith, h)) k)
+        by true t =
+            let h = ltb-true (suc j) (suc (length x.rest)) t in
+            record { forth = omega arith; inside = inside; says = λ w k. (spelled w j e (r w)).0 (omega (arith, h)) k }
         by false t =
             let h = ltb-false (suc j) (suc (length x.rest)) t in
             counted (c.at + suc j) wordy o S (omega arith) inside (λ w k. (spelled w j e (r w)).1 (omega (arith, h, (r w).most)) k)
@@ -178,8 +184,12 @@ module _ (text : Bytes) (c : Cursor) (g : Good text c) (A : Stack) where
             → NumberLeads text c A f o (cond u (Err (TextWrong (end_at text a p hi))) (with_value (counted_to text c (end_at text a p hi) true o) (value_at text a p hi)))
         by_end t true r =
             let d = digits_read none_yet (in-text t) in
-            (λ w k. to_last w k t ∙ run_on text w o (low p + hi) f (few_nodes w k) (few_records w k) (value_at text a p hi) (end_at text a p hi) (run_inside text (end_at text a p hi) d.inside r)
-            (d.stops (run_inside text (end_at text a p hi) d.inside r)) r)
+            record {
+              forth = omega arith;
+              inside = d.inside;
+              says = λ w k. to_last w k t ∙ run_on text w o (low p + hi) f (few_nodes w k) (few_records w k) (value_at text a p hi) (end_at text a p hi) (run_inside text (end_at text a p hi) d.inside r)
+                  (d.stops (run_inside text (end_at text a p hi) d.inside r)) r;
+            }
         by_end t false r =
             let d = digits_read none_yet (in-text t) in
             valued (counted_to text c (end_at text a p hi) true o) (value_at text a p hi)
@@ -189,4 +199,4 @@ module _ (text : Bytes) (c : Cursor) (g : Good text c) (A : Stack) where
         by : (u : Bool) → first_fits p hi (get_or text a 0) ≡ u
             → NumberLeads text c A f o (cond u (cond (is_run (get_or text (end_at text a p hi) 0)) (Err (TextWrong (end_at text a p hi))) (with_value (counted_to text c (end_at text a p hi) true o) (value_at text a p hi))) (Err (TextWrong a)))
         by true t = by_end t (is_run (get_or text (end_at text a p hi) 0)) refl
-        by false t = λ w k. begins w k ∙ no_first text w o p hi f a (few_nodes w k) (few_records w k) inside (λ i. t)
+        by false t = record { forth = forth; inside = inside; says = λ w k. begins w k ∙ no_first text w o p hi f a (few_nodes w k) (few_records w k) inside (λ i. t) }

@@ -27,7 +27,11 @@ then p q = record {
 
 -- what is refused behind a way is refused before it
 pub then_refused : {text : Bytes} {c d : Cursor} {A B : Stack} (e : Refusal) → Way text c d A B → Refuses text d B e → Refuses text c A e
-then_refused e p q = λ w h. let x = p.goes w h in subst (Says e) (sym x.2) (q x.0 x.1)
+then_refused e p q = record {
+  forth = omega (arith, p.forth, q.forth);
+  inside = q.inside;
+  says = λ w h. let x = p.goes w h in subst (Says e) (sym x.2) (q.says x.0 x.1);
+}
 
 -- from a cursor to itself
 pub stays : {text : Bytes} {c : Cursor} (A : Stack) → Good text c → Way text c c A A

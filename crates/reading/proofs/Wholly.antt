@@ -51,7 +51,7 @@ all_to_come = mark OPTIONS (want 0 counts λ F. want F statements λ t. done (re
 -- what is refused there is what the text is refused for
 says : (text : Bytes) (e : Refusal) → Refuses text at_start all_to_come e → Says e (answer text)
 unfolding start none_yet
-says text e h = subst (Says e) (sym (from_start text)) (h none_yet start_logged)
+says text e h = subst (Says e) (sym (from_start text)) (h.says none_yet start_logged)
 
 module _ (text : Bytes) (nodes records : List ℕ) (n : length nodes ≡ NODES) (r : length records ≡ RECORDS) where
   pub no_options : (e : Refusal) → Err e ≡ fixed_to text at_start (OPTIONS.head ∷ OPTIONS.rest) → ReadsWhole text nodes records (Err e)

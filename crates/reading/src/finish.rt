@@ -55,6 +55,7 @@ fn own_word(kind: Kind, value: u64, a: usize, b: usize, c: usize) -> u64
 }
 
 // The node behind its parts; a and b stand behind the first two of them, c behind all. One by one: each is another call's answer.
+#[inline(always)] // as a call of its own it would be handed three cursors
 pub fn finish(kind: Kind, value: u64, a: Cursor, b: Cursor, c: Cursor, nodes: &mut [u64]) -> Cursor
     requires { Finishing (kind_number kind) value a b c nodes.old }
     ensures { Finishes (kind_number kind) value a b c nodes.old nodes.new result }

@@ -15,6 +15,7 @@ use image::refusals::Refusal;
 
 // What a field of a kind holds: a condition, a part of a class, or nothing. One by one, here and below: the text and F are read, the place moves, nodes and records are written.
 #[cycle(field_fields_part)]
+#[inline(always)] // as a call of its own it would hand each cursor on once more
 fn field(
     text: &[u8],
     options: u64,

@@ -10,7 +10,6 @@ use Rattle.sets.specs.Member.{bit}
 use Rattle.imp.specs.Shared.{Settings, Shared, Below}
 use Rattle.imp.proofs.Theorem.Sets.{and_true}
 use Rattle.image.specs.declared.records.Node.{Node}
-use Rattle.image.specs.Layout.{layout}
 use Rattle.image.specs.Records.{node}
 use Rattle.image.specs.Inner.Ready.{Ready}
 use Rattle.image.specs.Sets.{settings}
@@ -50,10 +49,10 @@ module _ (plan : Plan) (turn : Turn) (L : Lent) (h : Sharing plan turn L) where
     below = h.below;
   }
 
-  pub can_act : {ν : Node} → (layout ν.kind ≡ 0 → ⊥) → ((ν.kind ≡ 22 → ⊥) → OfClass (image_in plan) ν.a 1) → ((ν.kind ≡ 21 → ⊥) → ν.variable < 16)
+  pub can_act : {ν : Node} → ((ν.kind ≡ 22 → ⊥) → OfClass (image_in plan) ν.a 1) → ((ν.kind ≡ 21 → ⊥) → ν.variable < 16)
       → ActingFor plan ν turn.on L
-  can_act known expression variable = record {
-    every = record { known = known; expression = expression; variable_below = variable; lent = subst (λ N. Measured N L.store.now (tally_in L)) plan.prepared.settings_are h.lent };
+  can_act expression variable = record {
+    every = record { expression = expression; variable_below = variable; lent = subst (λ N. Measured N L.store.now (tally_in L)) plan.prepared.settings_are h.lent };
     below = h.below;
   }
 

@@ -167,12 +167,6 @@ all_alone : (k : ℕ) → alone k ≡ true
 unfolding layout kinds
 all_alone = kind_cases (λ k. alone k ≡ true) refl refl refl refl refl refl refl refl refl refl refl refl refl refl refl refl refl refl refl (λ k z. rw z)
 
-pub try_known : {k : ℕ} → k ≡ 22 → layout k ≡ 0 → ⊥
-unfolding layout kinds
-try_known e none =
-    let never : ◌≡◌ {A = ℕ} (layout 22) 0 = sym (ap layout e) ∙ none in
-    omega (arith, never)
-
 -- none of the other kinds
 pub record Alone (k : ℕ) : Type 0 where
   pub no_skip : k ≡ 16 → ⊥

@@ -19,11 +19,14 @@ fn act(setting: &Setting<'_>, node: Node, p: Progress, numbers: &mut [i32]) -> P
     ensures { Ran (acting setting.now.routine.image.now node setting.now.s (state_of p numbers.old)) result
         numbers.new }
 {
-    match node.kind() {
-        Kind::Assign => assign(setting, node, p, numbers),
-        Kind::Throw => fault(setting, node, p, numbers),
-        _ => take(node, p, numbers),
+    // By the number: `Acts` does not say that the kind is known.
+    if node.kind == u32::from(Kind::Assign) {
+        return assign(setting, node, p, numbers);
     }
+    if node.kind == u32::from(Kind::Throw) {
+        return fault(setting, node, p, numbers);
+    }
+    take(node, p, numbers)
 }
 
 // In one setting, if it is of the set: its part of the store is lent on.

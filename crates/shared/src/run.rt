@@ -1,4 +1,5 @@
 // The run of a statement for the settings of a set: recursion with the remaining budget and the node number falling.
+// What `run` goes on by is made part of it, `inline(always)`: in frames of their own, tries in each other took nearly twice the stack.
 ghost use Rattle.sets.specs.Member.{bit};
 ghost use Rattle.shared.specs.Inner.Handed.{image_in, state_in, Same};
 ghost use Rattle.shared.specs.Inner.Prepared.{OfClass};
@@ -46,6 +47,7 @@ pub fn run(plan: &Plan<'_>, n: usize, turn: Turn, lent: &mut Lent<'_>) -> u32
 
 // One statement for the settings of a set, and then another for the rest: two statements and two sets, so six parameters.
 #[cycle(attempt_both_choose_decide_follow_repeat_run)]
+#[inline(always)]
 fn both(plan: &Plan<'_>, x: usize, y: usize, turn: Turn, rest: Set, lent: &mut Lent<'_>) -> u32
     requires of_class { OfClass (image_in plan.now) x 3 × OfClass (image_in plan.now) y 3 }
     requires sharing { Sharing plan.now turn lent.old }
@@ -64,6 +66,7 @@ fn both(plan: &Plan<'_>, x: usize, y: usize, turn: Turn, rest: Set, lent: &mut L
 
 // A choice: its one part for the settings in its condition, its other for the rest.
 #[cycle(attempt_both_choose_decide_follow_repeat_run)]
+#[inline(always)]
 fn choose(plan: &Plan<'_>, node: Node, turn: Turn, lent: &mut Lent<'_>) -> u32
     requires chooses { Chooses plan.now node }
     requires sharing { Sharing plan.now turn lent.old }
@@ -81,6 +84,7 @@ fn choose(plan: &Plan<'_>, node: Node, turn: Turn, lent: &mut Lent<'_>) -> u32
 
 // A sequence: both of its parts for all that are left.
 #[cycle(attempt_both_choose_decide_follow_repeat_run)]
+#[inline(always)]
 fn follow(plan: &Plan<'_>, node: Node, turn: Turn, lent: &mut Lent<'_>) -> u32
     requires follows { Follows plan.now node }
     requires sharing { Sharing plan.now turn lent.old }
@@ -92,6 +96,7 @@ fn follow(plan: &Plan<'_>, node: Node, turn: Turn, lent: &mut Lent<'_>) -> u32
 
 // "An if runs its then part for the settings where the test is true, then its else part for the rest".
 #[cycle(attempt_both_choose_decide_follow_repeat_run)]
+#[inline(always)]
 fn decide(plan: &Plan<'_>, node: Node, turn: Turn, lent: &mut Lent<'_>) -> u32
     requires decides { Decides plan.now node }
     requires sharing { Sharing plan.now turn lent.old }
@@ -106,6 +111,7 @@ fn decide(plan: &Plan<'_>, node: Node, turn: Turn, lent: &mut Lent<'_>) -> u32
 
 // "A while is tested again for the settings that were true and are still live, together": one less of the budget remains each time.
 #[cycle(attempt_both_choose_decide_follow_repeat_run)]
+#[inline(always)]
 fn repeat(plan: &Plan<'_>, node: Node, turn: Turn, lent: &mut Lent<'_>) -> u32
     requires repeats { Repeats plan.now node }
     requires sharing { Sharing plan.now turn lent.old }
@@ -125,6 +131,7 @@ fn repeat(plan: &Plan<'_>, node: Node, turn: Turn, lent: &mut Lent<'_>) -> u32
 
 // "A handler runs for exactly the settings in which its own try's body ended in fault."
 #[cycle(attempt_both_choose_decide_follow_repeat_run)]
+#[inline(always)]
 fn attempt(plan: &Plan<'_>, node: Node, turn: Turn, lent: &mut Lent<'_>) -> u32
     requires attempts { Attempts plan.now node }
     requires sharing { Sharing plan.now turn lent.old }

@@ -2,6 +2,7 @@
 use Rattle.std.specs.Prelude.{◌≡◌, ℕ, ◌+◌, ◌≤◌, List, [], ◌∷◌, length, drop}
 use Rattle.image.specs.declared.refusals.Refusal.{Refusal}
 use Rattle.image.specs.declared.refusals.Refusal.TheVariants.{TextWrong, TooMany}
+use Rattle.image.specs.Refusals.{place_of}
 use Rattle.image.specs.Bytes.{Bytes}
 use Rattle.written.specs.Token.{Opens, nothing, node, record_of, Spot}
 use Rattle.written.specs.Machine.{Stack, Log, plain}
@@ -56,9 +57,11 @@ pub record Way (text : Bytes) (c c' : Cursor) (A B : Stack) : Type 0 where
   pub good : Good text c'
   pub goes : (w : Log) → Logged c w → (w' : Log) × Logged c' w' × (here text c w A ≡ here text c' w' B)
 
--- from c, where A is still to come, the text is refused
-abbrev pub Refuses : Bytes → Cursor → Stack → Refusal → Type 0
-Refuses text c A e = (w : Log) → Logged c w → Says e (here text c w A)
+-- from c, where A is still to come, the text is refused: at a place that is not before c and lies in the text
+pub record Refuses (text : Bytes) (c : Cursor) (A : Stack) (e : Refusal) : Type 0 where
+  pub forth : c.at ≤ place_of e
+  pub inside : place_of e ≤ length text
+  pub says : (w : Log) → Logged c w → Says e (here text c w A)
 
 -- what has been opened and written
 pub record Kept (c c' : Cursor) : Type 0 where

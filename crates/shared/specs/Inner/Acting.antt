@@ -6,7 +6,6 @@ use Rattle.imp.specs.State.{State, store, thrown, taken}
 use Rattle.imp.specs.Shared.{value_in, for, Below}
 use Rattle.image.specs.declared.records.Node.{Node}
 use Rattle.image.specs.Bytes.{Bytes}
-use Rattle.image.specs.Layout.{layout}
 use Rattle.image.specs.Sets.{settings}
 use Rattle.image.specs.Tree.{read}
 use Rattle.plain.specs.declared.progress.Progress.{Progress}
@@ -28,7 +27,6 @@ acting l ν s σ =
 -- ---- one setting, on its own sixteen numbers
 
 pub record Acts (l : Bytes) (ν : Node) (p : Progress) (ns : List ℤ) : Type 0 where
-  pub known : layout ν.kind ≡ 0 → ⊥
   pub expression : (ν.kind ≡ 22 → ⊥) → Evaluating l ν.a 1 ns
   pub variable_below : (ν.kind ≡ 21 → ⊥) → ν.variable < 16
   pub proper : Proper p.outcome p.code
@@ -37,7 +35,6 @@ pub record Acts (l : Bytes) (ν : Node) (p : Progress) (ns : List ℤ) : Type 0 
 -- ---- one setting of all
 
 pub record Acting (l : Bytes) (ν : Node) (L : Lent) : Type 0 where
-  pub known : layout ν.kind ≡ 0 → ⊥
   pub expression : (ν.kind ≡ 22 → ⊥) → OfClass l ν.a 1
   pub variable_below : (ν.kind ≡ 21 → ⊥) → ν.variable < 16
   pub lent : Measured (settings l) L.store.now (tally_in L)

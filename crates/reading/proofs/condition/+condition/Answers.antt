@@ -1,12 +1,17 @@
 -- A condition's operands are read behind its first token, so that fewer bytes are left for each; what is written follows from the laws of ConditionParts and ConditionPairs.
 use Rattle.reading.proofs.Ways.{refused_is}
-use Rattle.std.proofs.Common.{ap, arith}
+use Rattle.std.proofs.Common.{ap, refl, arith}
 use Rattle.image.specs.Kinds.{condition_kind_number}
 use Rattle.reading.proofs.Naming.{no_operand}
 use Rattle.reading.proofs.ConditionLeads.{any}
 use Rattle.reading.proofs.ConditionParts.{first_ready, first_less, leaf_storable, leaf_reads, not_refused, not_storable, not_reads}
 use Rattle.reading.proofs.ConditionPairs.{first_refused, join_refused, second_ready, second_less, second_refused, close_refused, two_storable, two_reads}
 use Rattle.reading.proofs.condition.+condition.Goals as goal
+
+-- ---- its first token
+
+pub returns-in_err-lead : goal.returns-in_err-lead
+returns-in_err-lead t c = rw (refused_is c.from_residual.result c.from_residual.ensures.1) (record { read = c.in_err-lead.ensures; same_space = refl })
 
 -- ---- an operand
 

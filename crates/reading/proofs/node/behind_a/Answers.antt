@@ -4,8 +4,11 @@ use Rattle.std.proofs.Common.{ap}
 use Rattle.std.proofs.Math.Option.{none}
 use Rattle.image.specs.Kinds.{kind_number}
 use Rattle.reading.proofs.Naming.{no_try}
-use Rattle.reading.proofs.Between.{behind_mark, no_catch, catch_good, no_caught, caught_good, no_with, behind_catch}
+use Rattle.reading.proofs.Between.{no_mark, behind_mark, no_catch, catch_good, no_caught, caught_good, no_with, behind_catch}
 use Rattle.reading.proofs.node.behind_a.Goals as goal
+
+pub returns-in_err-mark-in_default : goal.returns-in_err-mark-in_default
+returns-in_err-mark-in_default c = rw (refused_is c.from_residual-in_err-mark-in_default.result c.from_residual-in_err-mark-in_default.ensures.1) (λ o e. no_mark _ _ c.requires _ _ o _ (no_try _ c.in_default.not-Try) (c.in_err-mark-in_default.ensures o e))
 
 pub returns-in_ok-mark-in_default : goal.returns-in_ok-mark-in_default
 returns-in_ok-mark-in_default c = λ o e. behind_mark _ _ c.requires _ _ o _ (no_try _ c.in_default.not-Try) (c.in_ok-mark-in_default.ensures o e)

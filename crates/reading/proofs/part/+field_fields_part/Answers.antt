@@ -1,6 +1,6 @@
 -- A part is read in the order in which it is written; bytes left fall with each part that begins, for its first token has been read.
 use Rattle.reading.proofs.Ways.{refused_is}
-use Rattle.std.proofs.Common.{ap, ◌∙◌, arith}
+use Rattle.std.proofs.Common.{ap, refl, ◌∙◌, arith}
 use Rattle.image.specs.Layout.{layout}
 use Rattle.written.specs.Machine.{done}
 use Rattle.reading.proofs.Tokens.{nothing_read}
@@ -66,6 +66,9 @@ fields-finish-requires t c = finishing c.requires (c.layout-digits.ensures ∙ a
 
 pub fields-returns : goal.fields-returns
 fields-returns t c = filled c.requires (c.layout-digits.ensures ∙ ap layout c.from.ensures) (c.in_ok-before_a.ensures _ c.marks-m.ensures.0) c.in_ok-a.ensures (c.in_ok-v.ensures _ c.marks-m.ensures.1) c.in_ok-b.ensures (c.in_ok-before_c.ensures _ c.marks-m.ensures.2) c.in_ok-d.ensures (c.in_ok-end.ensures _ c.marks-m.ensures.3) c.finish.ensures
+
+pub part-returns-in_err-l : goal.part-returns-in_err-l
+part-returns-in_err-l t c = rw (refused_is c.from_residual.result c.from_residual.ensures.1) (record { read = c.in_err-l.ensures _; same_nodes = refl; same_records = refl })
 
 pub part-fields-requires : goal.part-fields-requires
 part-fields-requires t c =

@@ -1,21 +1,21 @@
 -- `act` meets its contract: an assignment and a throw as in the run of one setting, and else the fault is taken.
-use mathlib.Core.Path.{sym}
+use mathlib.Core.Path.{◌∙◌}
 use native.Mathlib.Omega.{arith}
 use Rattle.plain.proofs.Statements.{arrives}
 use Rattle.shared.proofs.Acts.{assign_acts, throw_acts, take_acts}
 use Rattle.shared.proofs.act.act.Goals as goal
 
-pub returns-in-Assign : goal.returns-in-Assign
-returns-in-Assign c =
+pub returns-then-node-from : goal.returns-then-node-from
+returns-then-node-from c =
     let a = c.args in
-    arrives (assign_acts a.setting.now.routine.image.now a.node a.setting.now.s a.p a.numbers.now (sym c.in-Assign.ensures)) c.assign.ensures
+    arrives (assign_acts a.setting.now.routine.image.now a.node a.setting.now.s a.p a.numbers.now (c.if-node-from.true ∙ c.from.ensures)) c.assign.ensures
 
-pub returns-in-Throw : goal.returns-in-Throw
-returns-in-Throw c =
+pub returns-then-node-from-2 : goal.returns-then-node-from-2
+returns-then-node-from-2 c =
     let a = c.args in
-    arrives (throw_acts a.setting.now.routine.image.now a.node a.setting.now.s a.p a.numbers.now (sym c.in-Throw.ensures)) c.fault.ensures
+    arrives (throw_acts a.setting.now.routine.image.now a.node a.setting.now.s a.p a.numbers.now (c.if-node-from-2.true ∙ c.from-2.ensures)) c.fault.ensures
 
-pub returns-in_default : goal.returns-in_default
-returns-in_default c =
+pub returns : goal.returns
+returns c =
     let a = c.args in
-    arrives (take_acts a.setting.now.routine.image.now a.node a.setting.now.s a.p a.numbers.now (λ e. grind arith) (λ e. grind arith)) c.take.ensures
+    arrives (take_acts a.setting.now.routine.image.now a.node a.setting.now.s a.p a.numbers.now (λ e. omega arith) (λ e. omega arith)) c.take.ensures

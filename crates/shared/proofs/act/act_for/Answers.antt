@@ -17,7 +17,7 @@ pub act_at-requires : goal.act_at-requires
 act_at-requires c =
     let pre = c.requires.every in
     rw c.loop-s.invariant.1
-    (record { known = pre.known; expression = pre.expression; variable_below = pre.variable_below; lent = c.loop-s.invariant.2 })
+    (record { expression = pre.expression; variable_below = pre.variable_below; lent = c.loop-s.invariant.2 })
 
 pub loop-s-preserved : goal.loop-s-preserved
 loop-s-preserved c =

@@ -13,7 +13,7 @@ use Rattle.shared.proofs.Keeping.{begun_on, no_more, after_run, reaching, can_be
 use Rattle.shared.proofs.Left.{any_left, does_all}
 use Rattle.shared.proofs.Loops.{from_start, turned, nearer, ending}
 use Rattle.shared.proofs.Parting.{node_of, for_some_of, can_ask, can_act, parts_chosen, parts_decided}
-use Rattle.shared.proofs.Statements.{alone_as, below_a, below_b, below_c, chooses, follows, decides, repeats, attempts, expression, variable_there, choice_shares, skip_begins, sequence_begins, if_begins, while_begins, try_begins, act_begins, known, try_known}
+use Rattle.shared.proofs.Statements.{alone_as, below_a, below_b, below_c, chooses, follows, decides, repeats, attempts, expression, variable_there, choice_shares, skip_begins, sequence_begins, if_begins, while_begins, try_begins, act_begins, known}
 use Rattle.shared.proofs.Tries.{after_act, tried}
 use Rattle.shared.proofs.Whose.{where_tested}
 use mathlib.Core.Bool.{Bool, true, false}
@@ -35,7 +35,7 @@ attempt-act_for-requires t c =
     let ran : Turn = record a.turn { visits = c.run-visits.result } in
     can_act a.plan.now (record ran { on = c.ask_for-yes.result }) _
     (for_some_of a.plan.now ran _ (after_run a.plan.now a.turn _ pre.sharing _ _ _ _ c.run-visits.ensures.shares) c.ask_for-yes.result _ c.ask_for-yes.ensures)
-    (try_known pre.attempts.is_try) (λ other. absurd (other pre.attempts.is_try)) (λ other. pre.attempts.variable_below)
+    (λ other. absurd (other pre.attempts.is_try)) (λ other. pre.attempts.variable_below)
 
 pub attempt-run-requires : goal.attempt-run-requires
 attempt-run-requires t c =
@@ -194,7 +194,7 @@ run-act_for-requires t c =
     let p = node_of c.args.plan.now c.requires.of_class c.node-node.ensures in
     let other = c.in_default in
     let alone = alone_as c.kind-kind.ensures other.not-Skip other.not-Sequence other.not-If other.not-While other.not-Try (no_choice c.eq.ensures c.if-eq.false) in
-    can_act c.args.plan.now c.begin_for-left.result _ (begun_on c.args.plan.now c.args.turn _ c.requires.sharing c.begin_for-left.ensures.begun) (known p c.requires.of_class.is_class)
+    can_act c.args.plan.now c.begin_for-left.result _ (begun_on c.args.plan.now c.args.turn _ c.requires.sharing c.begin_for-left.ensures.begun)
     (λ other. expression p c.requires.of_class.is_class alone) (variable_there p c.requires.of_class.is_class alone)
 
 pub run-returns-in-Skip-clause-shares : goal.run-returns-in-Skip-clause-shares
